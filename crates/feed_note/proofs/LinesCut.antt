@@ -1,11 +1,8 @@
 -- A text is cut into its lines and its rest, and in no other way.
 use Rattle.std.proofs.Common.{◌≡◌, refl, sym, ap, ◌∙◌, subst, ℕ, Bool, true, false, not, ◌&&◌, true≢false, List, [], ◌∷◌, ◌++◌, length, drop, cond, append_assoc, eqb-true}
+use Rattle.std.proofs.lemmas.Bool.{and_from as both}
 use Rattle.std.specs.List.{AllByRecursion}
 use Rattle.feed_note.specs.Lines.{is_line_feed, onto_first, lines, rest, ended, HasNoLineFeed, IsCutInto, LinesCut, LinesAreTheOnlyCut}
-
-pub both : (a b : Bool) → a ≡ true → b ≡ true → (a && b) ≡ true
-both true b p q = q
-both false b p q = p
 
 pub first_true : (a b : Bool) → (a && b) ≡ true → a ≡ true
 first_true true b e = refl

@@ -8,10 +8,11 @@ use Rattle.std.specs.Str.Parse.{digits_value}
 use Rattle.std.proofs.lemmas.Str.Parse.{IsNumeralModel, numerals_by_value, tells_all_ascii_digits, digits_value_short, digits_value-take-le, digit_at}
 use Rattle.std.proofs.lemmas.Str.{digit_value_digit}
 use Rattle.std.proofs.lemmas.Int.Digits.{digits_value_more}
+use Rattle.std.proofs.lemmas.Bool.{and_from as both}
 use Rattle.feed_note.specs.Lines.{onto_first}
 use Rattle.feed_play.specs.Script.{is_space, is_script_number, script_number, numbers_in, one_of, nodes_in, words}
 use Rattle.feed_play.proofs.WordLemmas.{stays, one_word}
-use Rattle.feed_note.proofs.LinesCut.{both, second_true, first_true}
+use Rattle.feed_note.proofs.LinesCut.{second_true, first_true}
 
 and_false : (a : Bool) → (a && false) ≡ false
 and_false true = refl

@@ -1,7 +1,8 @@
 -- Lines that are passed in parts, and what connections carry between them.
 use Rattle.std.proofs.Common.{◌≡◌, refl, sym, ap, ap₂, ◌∙◌, subst, ℕ, ◌+◌, ◌<◌, min, Bool, true, false, not, List, [], ◌∷◌, ◌++◌, append_assoc, length, length-append, arith, Option, Some}
+use Rattle.std.proofs.lemmas.Bool.{and_from as both}
 use Rattle.feed_note.specs.Lines.{HasNoLineFeed, is_line_feed, lines}
-use Rattle.feed_note.proofs.LinesCut.{both, first_true, second_true}
+use Rattle.feed_note.proofs.LinesCut.{first_true, second_true}
 use Rattle.std.specs.Prelude.{◌==◌, option_map}
 use Rattle.feed_records.specs.Connections.{IsFilled, OpensFeed, announced_by, answered, is_blank_line, is_success}
 use Rattle.feed_records.specs.Fronts.{IsFront, IsLeft, IsLineAtFront, IsLineBefore, IsRestAtFront, IsLongAtFront}

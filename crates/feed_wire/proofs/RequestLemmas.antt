@@ -4,7 +4,7 @@ use Rattle.std.specs.Prelude.{if◌then◌else◌, Option, Some, None, IfSome, o
 use Rattle.std.specs.List.{list_all, prefix_len}
 use Rattle.std.specs.Str.Lossy.{utf8_lossy}
 use Rattle.std.proofs.Math.Seq.{take-append_seam, take-length, drop-append-add}
-use Rattle.std.proofs.lemmas.Bool.{and_parts, cases_lt, cond_both, eq-eqb}
+use Rattle.std.proofs.lemmas.Bool.{and_parts, cases_lt, cond_both, eq-eqb, and_from as both}
 use Rattle.std.proofs.lemmas.Bool.Decides.{nat_tests}
 use Rattle.std.proofs.lemmas.List.Folds.{list_all-append}
 use Rattle.std.proofs.lemmas.List.Sums.{AllPass-from_list_all, list_all-from_AllPass, sum_by-append}
@@ -31,10 +31,6 @@ use Rattle.feed_wire.specs.Asked.{Requests, form_text, parameter, since_token}
 use Rattle.feed_wire.specs.RequestLaws.{RequestIsRead}
 
 -- ---- two tests
-
-both : (a b : Bool) → a ≡ true → b ≡ true → (a && b) ≡ true
-both true b p q = q
-both false b p q = p
 
 both_left : (a b : Bool) → (a && b) ≡ true → a ≡ true
 both_left a b h = (and_parts a b h).0
