@@ -4,7 +4,7 @@ use Rattle.std.specs.Prelude.{if◌then◌else◌, Option, Some, None, IfSome, o
 use Rattle.std.specs.List.{list_all, prefix_len}
 use Rattle.std.specs.Str.Lossy.{utf8_lossy}
 use Rattle.std.proofs.Math.Seq.{take-append_seam, take-length, drop-append-add}
-use Rattle.std.proofs.lemmas.Bool.{and_parts, cases_lt, cond_both, eq-eqb, and_from as both}
+use Rattle.std.proofs.lemmas.Bool.{and_parts, cases_lt, cond_both, eq-eqb, and_from as both, ltb-true as under_ascii}
 use Rattle.std.proofs.lemmas.Bool.Decides.{nat_tests}
 use Rattle.std.proofs.lemmas.List.Folds.{list_all-append}
 use Rattle.std.proofs.lemmas.List.Sums.{AllPass-from_list_all, list_all-from_AllPass, sum_by-append}
@@ -156,9 +156,6 @@ small_four c h =
 scalar_small : (c : ℕ) → (c < 55296) ⊎ ((57344 ≤ c) × (c < 1114112)) → c < 1114112
 scalar_small c (inl low) = omega arith
 scalar_small c (inr high) = high.1
-
-under_ascii : (c n : ℕ) → nat_lt c n ≡ true → c < n
-under_ascii c n h = grind (arith, nat_tests)
 
 encode_bytes : (c : ℕ) → scalar c ≡ true → All Small (encode c)
 unfolding encode
