@@ -12,9 +12,10 @@ use Rattle.std.proofs.lemmas.Slice.Zip.{AllZip-long}
 use Rattle.std.proofs.lemmas.Bool.{and_from as both}
 use Rattle.feed_text.specs.Limits.{line_bytes}
 use Rattle.feed_text.proofs.Unique.{text_determines_object}
+use Rattle.feed_text.proofs.Choices.{first_true, second_true}
 use Rattle.feed_note.proofs.ChangeBounds.{changes-le-bytes}
 use Rattle.feed_note.proofs.Counting.{counts_more}
-use Rattle.feed_note.proofs.LinesCut.{first_true, second_true, one_line, no_lines, no_rest, lines_are_the_only_cut, rest_behind}
+use Rattle.feed_note.proofs.LinesCut.{one_line, no_lines, no_rest, lines_are_the_only_cut, rest_behind}
 use Rattle.feed_note.proofs.LongLines.{long_next_stays}
 use Rattle.feed_note.proofs.OneMeaning.{only_one}
 use Rattle.feed_note.proofs.ReadSoFar.{change_count}

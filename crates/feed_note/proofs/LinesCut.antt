@@ -1,17 +1,10 @@
 -- A text is cut into its lines and its rest, and in no other way.
-use Rattle.std.proofs.Common.{◌≡◌, refl, sym, ap, ◌∙◌, subst, ℕ, Bool, true, false, not, ◌&&◌, true≢false, List, [], ◌∷◌, ◌++◌, length, drop, cond, append_assoc, eqb-true}
+use Rattle.std.proofs.Common.{◌≡◌, refl, sym, ap, ◌∙◌, subst, ℕ, Bool, true, false, not, List, [], ◌∷◌, ◌++◌, length, drop, cond, append_assoc, eqb-true}
 use Rattle.std.proofs.lemmas.Bool.{and_from as both, not-true as negated}
 use Rattle.std.proofs.Math.Seq.{drop-append_seam as drop_prefix}
 use Rattle.std.specs.List.{AllByRecursion}
 use Rattle.feed_note.specs.Lines.{is_line_feed, onto_first, lines, rest, ended, HasNoLineFeed, IsCutInto, LinesCut, LinesAreTheOnlyCut}
-
-pub first_true : (a b : Bool) → (a && b) ≡ true → a ≡ true
-first_true true b e = refl
-first_true false b e = e
-
-pub second_true : (a b : Bool) → (a && b) ≡ true → b ≡ true
-second_true true b e = e
-second_true false b e = absurd (true≢false (sym e))
+use Rattle.feed_text.proofs.Choices.{first_true, second_true}
 
 -- ---- the lines are a cut
 

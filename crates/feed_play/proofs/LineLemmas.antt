@@ -3,7 +3,7 @@ use Rattle.std.proofs.Common.{◌≡◌, refl, ap, ◌∙◌, ℕ, ◌<◌, Bool
 use Rattle.feed_note.specs.Lines.{is_line_feed, lines, HasNoLineFeed}
 use Rattle.feed_play.specs.Lines.{LinesLeft}
 use Rattle.std.proofs.lemmas.Bool.{not-true as negated}
-use Rattle.feed_note.proofs.LinesCut.{second_true, first_true}
+use Rattle.feed_text.proofs.Choices.{first_true, second_true}
 
 -- a text without a line feed has no line
 pub no_line : (t : List ℕ) → HasNoLineFeed t → lines t ≡ []

@@ -13,7 +13,7 @@ use Rattle.std.proofs.Math.Bool.{and-false as and_false}
 use Rattle.feed_note.specs.Lines.{onto_first}
 use Rattle.feed_play.specs.Script.{is_space, is_script_number, script_number, numbers_in, one_of, nodes_in, words}
 use Rattle.feed_play.proofs.WordLemmas.{stays, one_word}
-use Rattle.feed_note.proofs.LinesCut.{second_true, first_true}
+use Rattle.feed_text.proofs.Choices.{first_true, second_true}
 
 -- ---- the value of digits
 

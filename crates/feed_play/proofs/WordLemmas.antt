@@ -3,8 +3,8 @@ use Rattle.std.proofs.Common.{◌≡◌, refl, ap, ◌∙◌, subst, ℕ, ◌+�
 use Rattle.std.specs.List.{list_all, prefix_len, position, position_or_len}
 use Rattle.std.proofs.lemmas.List.Sums.{prefix_len_stops, split_at_first}
 use Rattle.feed_play.specs.Script.{is_space, words}
-use Rattle.feed_note.proofs.LinesCut.{first_true, second_true}
 use Rattle.std.proofs.lemmas.Bool.{not-true as negated, and_from as both}
+use Rattle.feed_text.proofs.Choices.{first_true, second_true}
 
 abbrev pub stays : ℕ → Bool
 stays b = not (is_space b)

@@ -4,20 +4,13 @@ use Rattle.std.proofs.lemmas.Bool.{or_right}
 use Rattle.std.specs.Prelude.{is_some, if◌then◌else◌, ◌==◌, codes}
 use Rattle.std.specs.List.{AllByRecursion, ends_with}
 use Rattle.feed_text.specs.Limits.{line_bytes}
+use Rattle.feed_text.proofs.Choices.{neither_left, neither_right}
 use Rattle.feed_note.specs.Lines.{HasNoLineFeed, lines, rest, ended}
 use Rattle.feed_note.proofs.LinesCut.{lines_cut, no_lines, one_line, no_rest, rest_behind}
 use Rattle.feed_records.specs.Connections.{OpensNone, is_marked, is_short, token_on, status_on, since_in, status_in}
 use Rattle.feed_records.specs.Parting.{opens_connection, body_by, count_by, next_by, body_of, body_lines, behind_body, first_opens, is_at_next}
 
 -- ---- whether a connection begins on a line
-
-neither_left : (a b : Bool) → (a || b) ≡ false → a ≡ false
-neither_left true b e = e
-neither_left false b e = refl
-
-neither_right : (a b : Bool) → (a || b) ≡ false → b ≡ false
-neither_right true b e = absurd (true≢false e)
-neither_right false b e = e
 
 none_by : (o : Option (List ℕ)) → is_some o ≡ false → o ≡ None
 none_by None e = refl

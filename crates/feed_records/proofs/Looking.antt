@@ -3,8 +3,9 @@ use Rattle.std.proofs.Common.{◌≡◌, refl, sym, ap, ap₂, ◌∙◌, subst,
 use Rattle.std.proofs.lemmas.Bool.{not-true as negated}
 use Rattle.std.specs.Prelude.{◌==◌, option_map, slice_index_or}
 use Rattle.feed_text.specs.Limits.{line_bytes}
+use Rattle.feed_text.proofs.Choices.{first_true, second_true}
 use Rattle.feed_note.specs.Lines.{HasNoLineFeed, is_line_feed, onto_first, lines, rest, ended}
-use Rattle.feed_note.proofs.LinesCut.{first_true, second_true, lines_cut, one_line, no_lines}
+use Rattle.feed_note.proofs.LinesCut.{lines_cut, one_line, no_lines}
 use Rattle.feed_records.specs.Connections.{is_blank_line, is_chunked}
 use Rattle.feed_records.specs.Fronts.{IsFront, IsLineAtFront, IsLineBefore}
 use Rattle.feed_records.specs.Parting.{opens_connection, body_by, body_of, body_lines, behind_body, first_opens, is_at_next, first_is_blank, is_at_blank, most}

@@ -2,7 +2,6 @@
 use Rattle.std.proofs.Common.{◌≡◌, refl, sym, ap, ap₂, ◌∙◌, subst, ℕ, ◌+◌, ◌<◌, min, Bool, true, false, not, List, [], ◌∷◌, ◌++◌, append_assoc, length, length-append, arith, Option, Some}
 use Rattle.std.proofs.lemmas.Bool.{and_from as both}
 use Rattle.feed_note.specs.Lines.{HasNoLineFeed, is_line_feed, lines}
-use Rattle.feed_note.proofs.LinesCut.{first_true, second_true}
 use Rattle.std.specs.Prelude.{◌==◌, option_map}
 use Rattle.feed_records.specs.Connections.{IsFilled, OpensFeed, announced_by, answered, is_blank_line, is_success}
 use Rattle.feed_records.specs.Fronts.{IsFront, IsLeft, IsLineAtFront, IsLineBefore, IsRestAtFront, IsLongAtFront}
@@ -12,6 +11,7 @@ use Rattle.feed_records.specs.declared.reading.Front.{Front}
 use Rattle.feed_records.proofs.Bodies.{at_line, count_behind, next_behind, next_rest, count_next, next_next, regroup}
 use Rattle.feed_records.proofs.Looking.{known, end_of, next_is_line, line_at, blank_line, not_so_many}
 use Rattle.feed_records.proofs.EndedLines.{all_more, line_more}
+use Rattle.feed_text.proofs.Choices.{first_true, second_true}
 
 -- the first bytes of a text were passed, which are no line yet
 pub record Skips (text behind : List ℕ) : Type 0 where
