@@ -13,6 +13,7 @@ use Rattle.std.proofs.lemmas.Bool.{and_from as both}
 use Rattle.feed_text.specs.Limits.{line_bytes}
 use Rattle.feed_text.proofs.Unique.{text_determines_object}
 use Rattle.feed_text.proofs.Choices.{first_true, second_true}
+use Rattle.feed_text.proofs.Lists.{each-append}
 use Rattle.feed_note.proofs.ChangeBounds.{changes-le-bytes}
 use Rattle.feed_note.proofs.Counting.{counts_more}
 use Rattle.feed_note.proofs.LinesCut.{one_line, no_lines, no_rest, lines_are_the_only_cut, rest_behind}
@@ -42,10 +43,6 @@ use Rattle.feed_commands.specs.declared.commands.streamed.Reading.{Reading}
 use Rattle.feed_commands.proofs.FindingsLemmas.{HasAll, is_again, has_more, of_each_length, found_first, found_push, found_on, found_fit, zip_push, token_more}
 
 -- ---- lists
-
-pub each_push : {X : Type 0} (P : X → Type 0) (xs : List X) (x : X) → AllByRecursion P xs → P x → AllByRecursion P (xs ++ x ∷ [])
-each_push P [] x h k = (k, tt)
-each_push P (y ∷ ys) x h k = (h.0, each_push P ys x h.1 k)
 
 read_push : (xs : List (List ℕ)) (ys : List Line) (x : List ℕ) (y : Line) → AllZip IsRead xs ys → IsRead x y → AllZip IsRead (xs ++ x ∷ []) (ys ++ y ∷ [])
 read_push [] [] x y h k = (k, tt)
@@ -240,7 +237,7 @@ noted_more passed notes line note old new read h is (said, s, takes) =
 pub tallied_more : (passed : List (List ℕ)) (notes : List Line) (line : List ℕ) (old new : Tally) (t : CountsLine line old new) → AreTallied passed notes old → HasNoLineFeed line
     → AreTallied (passed ++ line ∷ []) (notes ++ t.note ∷ []) new
 tallied_more passed notes line old new t h part = record {
-  whole = each_push HasNoLineFeed passed line h.whole part;
+  whole = each-append HasNoLineFeed passed line h.whole part;
   read = read_push passed notes line t.note h.read t.read;
   counts_are = counts_more notes t.note old.counts new.counts h.counts_are t.counts;
   found = λ v. noted_more passed notes line t.note old.reader new.reader h.read (h.found (sym t.verbose ∙ v)) t.read (t.found (sym t.verbose ∙ v));

@@ -10,8 +10,9 @@ use Rattle.feed_records.specs.declared.connections.Opened.{Opened}
 use Rattle.feed_records.specs.declared.reading.Front.{Front}
 use Rattle.feed_records.proofs.Bodies.{at_line, count_behind, next_behind, next_rest, count_next, next_next, regroup}
 use Rattle.feed_records.proofs.Looking.{known, end_of, next_is_line, line_at, blank_line, not_so_many}
-use Rattle.feed_records.proofs.EndedLines.{all_more, line_more}
+use Rattle.feed_records.proofs.EndedLines.{line_more}
 use Rattle.feed_text.proofs.Choices.{first_true, second_true}
+use Rattle.feed_text.proofs.Lists.{each-append}
 
 -- the first bytes of a text were passed, which are no line yet
 pub record Skips (text behind : List ℕ) : Type 0 where
@@ -110,9 +111,9 @@ module _ (text : List ℕ) (old mid new : Option (List ℕ)) (start count more :
       s.1,
       record {
         fields = h.2.fields ++ s.2.0 ∷ [];
-        whole = all_more HasNoLineFeed h.2.fields s.2.0 h.2.whole s.2.1;
+        whole = each-append HasNoLineFeed h.2.fields s.2.0 h.2.whole s.2.1;
         text_is = line_more text h.0 s.0 s.2.0 h.2.fields h.2.text_is s.2.2;
-        filled = all_more IsFilled h.2.fields s.2.0 h.2.filled (sym blank_is ∙ e);
+        filled = each-append IsFilled h.2.fields s.2.0 h.2.filled (sym blank_is ∙ e);
         counted = let n = length-append h.2.fields (s.2.0 ∷ []) in let c = h.2.counted in omega (arith, n, c, more_is);
       },
     )
@@ -124,7 +125,7 @@ module _ (text : List ℕ) (old mid new : Option (List ℕ)) (start count more :
       record {
         fields = h.2.fields;
         blank = s.2.0;
-        whole = all_more HasNoLineFeed h.2.fields s.2.0 h.2.whole s.2.1;
+        whole = each-append HasNoLineFeed h.2.fields s.2.0 h.2.whole s.2.1;
         text_is = line_more text h.0 s.0 s.2.0 h.2.fields h.2.text_is s.2.2;
         filled = h.2.filled;
         ends = sym blank_is ∙ e;
