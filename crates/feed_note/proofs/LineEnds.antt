@@ -17,7 +17,7 @@ stays b = not (is_line_feed b)
 
 -- ---- the first line feed that a search finds
 
-take_one : (n x : ℕ) (xs : List ℕ) → take (1 + n) (x ∷ xs) ≡ x ∷ take n xs
+pub take_one : (n x : ℕ) (xs : List ℕ) → take (1 + n) (x ∷ xs) ≡ x ∷ take n xs
 take_one n x xs = grind arith
 
 unbroken_prefix : (xs : List ℕ) → HasNoLineFeed (take (position_or_len is_line_feed xs) xs)

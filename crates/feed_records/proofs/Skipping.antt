@@ -1,7 +1,7 @@
 -- Lines that are passed in parts, and what connections carry between them.
-use Rattle.std.proofs.Common.{◌≡◌, refl, sym, ap, ap₂, ◌∙◌, subst, ℕ, ◌+◌, ◌<◌, min, Bool, true, false, not, List, [], ◌∷◌, ◌++◌, append_assoc, length, length-append, arith, Option, Some}
-use Rattle.std.proofs.lemmas.Bool.{and_from as both}
-use Rattle.feed_note.specs.Lines.{HasNoLineFeed, is_line_feed, lines}
+use Rattle.std.proofs.Common.{◌≡◌, refl, sym, ap, ap₂, ◌∙◌, subst, ℕ, ◌+◌, ◌<◌, min, Bool, true, false, List, [], ◌∷◌, ◌++◌, append_assoc, length, length-append, arith, Option, Some}
+use Rattle.feed_note.specs.Lines.{HasNoLineFeed, lines}
+use Rattle.feed_note.proofs.LineEnds.{unbroken_both}
 use Rattle.std.specs.Prelude.{◌==◌, option_map}
 use Rattle.feed_records.specs.Connections.{IsFilled, OpensFeed, announced_by, answered, is_blank_line, is_success}
 use Rattle.feed_records.specs.Fronts.{IsFront, IsLeft, IsLineAtFront, IsLineBefore, IsRestAtFront, IsLongAtFront}
@@ -11,7 +11,6 @@ use Rattle.feed_records.specs.declared.reading.Front.{Front}
 use Rattle.feed_records.proofs.Bodies.{at_line, count_behind, next_behind, next_rest, count_next, next_next, regroup}
 use Rattle.feed_records.proofs.Looking.{known, end_of, next_is_line, line_at, blank_line, not_so_many}
 use Rattle.feed_records.proofs.EndedLines.{line_more}
-use Rattle.feed_text.proofs.Choices.{first_true, second_true}
 use Rattle.feed_text.proofs.Lists.{each-append}
 
 -- the first bytes of a text were passed, which are no line yet
@@ -19,10 +18,6 @@ pub record Skips (text behind : List ℕ) : Type 0 where
   pub seen : List ℕ
   pub unbroken : HasNoLineFeed seen
   pub text_is : text ≡ seen ++ behind
-
-pub unbroken_both : (xs ys : List ℕ) → HasNoLineFeed xs → HasNoLineFeed ys → HasNoLineFeed (xs ++ ys)
-unbroken_both [] ys h k = k
-unbroken_both (x ∷ xs) ys h k = both (not (is_line_feed x)) _ (first_true (not (is_line_feed x)) _ h) (unbroken_both xs ys (second_true (not (is_line_feed x)) _ h) k)
 
 pub skips_none : (text : List ℕ) → Skips text text
 skips_none text = record { seen = []; unbroken = refl; text_is = refl }

@@ -7,7 +7,7 @@ use Rattle.std.proofs.Math.Seq.{take-append_seam, take-length, drop-append-add}
 use Rattle.std.proofs.lemmas.Bool.{cases_lt, cond_both, eq-eqb, and_from as both, ltb-true as under_ascii}
 use Rattle.std.proofs.lemmas.Bool.Decides.{nat_tests}
 use Rattle.std.proofs.lemmas.List.Folds.{list_all-append}
-use Rattle.std.proofs.lemmas.List.Sums.{AllPass-from_list_all, list_all-from_AllPass, sum_by-append}
+use Rattle.std.proofs.lemmas.List.Sums.{AllPass-from_list_all, list_all-from_AllPass}
 use Rattle.std.proofs.lemmas.List.Elements.{All-weaker, All-nil, All-cons, All-append}
 use Rattle.std.proofs.lemmas.Slice.Eq.{bytes_eq-Decides}
 use Rattle.std.proofs.Math.Utf8.{scalar, scalars, scalar_cases, encode, encodes}
@@ -29,6 +29,7 @@ use Rattle.feed_wire.specs.HeadSizes.{IsHeadSize, line_count}
 use Rattle.feed_wire.specs.RequestText.{head_text, feed_path, since_query, request_text}
 use Rattle.feed_wire.specs.Asked.{Requests, form_text, parameter, since_token}
 use Rattle.feed_wire.specs.RequestLaws.{RequestIsRead}
+use Rattle.feed_wire.proofs.ResponseLemmas.{line_count-append}
 use Rattle.feed_text.proofs.Choices.{first_true, second_true}
 
 -- ---- two tests
@@ -301,9 +302,6 @@ serialized_short (b ∷ bs) = rw byte_serialize-cons
       serialized_short bs,
     ))
 
-lines_joined : (xs ys : List ℕ) → line_count (xs ++ ys) ≡ line_count xs + line_count ys
-lines_joined xs ys = sum_by-append (λ x. cond (x == 10) 1 0) xs ys
-
 no_lines : (xs : List ℕ) → list_all (λ b. not (b == 10)) xs ≡ true → line_count xs ≡ 0
 no_lines [] h = refl
 no_lines (x ∷ xs) h =
@@ -312,7 +310,7 @@ no_lines (x ∷ xs) h =
     let no : (x == 10) ≡ false = grind (arith, nat_tests) in
     let one : line_count (x ∷ []) ≡ 0 = ap (λ b. 0 + cond b 1 0) no in
     let more = no_lines xs (second_true (not (x == 10)) (list_all (λ b. not (b == 10)) xs) h) in
-    omega (arith, lines_joined (x ∷ []) xs, one, more)
+    omega (arith, line_count-append (x ∷ []) xs, one, more)
 
 -- ---- the text of a request
 
@@ -406,10 +404,10 @@ sent_lines target host t h =
     let end : line_count behind_host ≡ 4 = refl in
     omega (
       arith,
-      lines_joined (codes "GET ") (target ++ (behind_target ++ (host ++ behind_host))),
-      lines_joined target (behind_target ++ (host ++ behind_host)),
-      lines_joined behind_target (host ++ behind_host),
-      lines_joined host behind_host,
+      line_count-append (codes "GET ") (target ++ (behind_target ++ (host ++ behind_host))),
+      line_count-append target (behind_target ++ (host ++ behind_host)),
+      line_count-append behind_target (host ++ behind_host),
+      line_count-append host behind_host,
     )
 
 -- ---- the target
