@@ -135,7 +135,6 @@ members_written kind id content =
     (sym (append_assoc x (quotation_mark ∷ b ++ id) c)
     ∙ ap (λ l. l ++ c) (sym (append_assoc x (quotation_mark ∷ b) id) ∙ ap (λ l. l ++ id) begun))
 
--- what holds holds on an error
 -- a line behind what stands before it
 pub line_written : (before kind id content : List ℕ)
     → before ++ codes "{\"type\":\"" ++ flat_map written_byte kind ++ around id ++ content

@@ -100,10 +100,6 @@ pub content_found : (m : Option Value) (s : Spelling) → Some s ≡ option_map 
 content_found None s e = absurd cc
 content_found (Some v) s e = (v, refl, cc)
 
-pub content_absent : (m : Option Value) → None ≡ option_map spelling_of m → m ≡ None
-content_absent None e = refl
-content_absent (Some v) e = absurd cc
-
 pub no_items : (v : Value) → is_array (kind_of v) ≡ false → items_of v ≡ []
 no_items null_literal e = refl
 no_items true_literal e = refl

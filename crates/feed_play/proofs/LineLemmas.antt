@@ -4,7 +4,6 @@ use Rattle.feed_note.specs.Lines.{lines, HasNoLineFeed}
 use Rattle.feed_note.proofs.LinesCut.{one_line}
 use Rattle.feed_play.specs.Lines.{LinesLeft}
 
--- a text without a line feed has no line
 -- a line and its line feed, and what is behind
 pub first_line : (t l behind : List ℕ) → HasNoLineFeed l → t ≡ l ++ 10 ∷ behind → lines t ≡ l ∷ lines behind
 first_line t l behind h e = ap lines e ∙ one_line l behind h

@@ -9,9 +9,10 @@ use Rattle.feed_records.specs.Parting.{PassesLine, PassesBody, PassesHead, Passe
 use Rattle.feed_records.specs.declared.connections.Opened.{Opened}
 use Rattle.feed_records.specs.declared.reading.Front.{Front}
 use Rattle.feed_records.proofs.Bodies.{at_line, count_behind, next_behind, next_rest, count_next, next_next, regroup}
-use Rattle.feed_records.proofs.Looking.{known, end_of, next_is_line, line_at, blank_line, not_so_many}
+use Rattle.feed_records.proofs.Looking.{end_of, next_is_line, line_at, blank_line, not_so_many}
 use Rattle.feed_records.proofs.EndedLines.{line_more}
 use Rattle.feed_text.proofs.Lists.{each-append}
+use Rattle.feed_text.proofs.PrefixReaders.{map_some}
 
 -- the first bytes of a text were passed, which are no line yet
 pub record Skips (text behind : List ℕ) : Type 0 where
@@ -55,7 +56,7 @@ skips_rest text old front h f =
 module _ (old mid : Option (List ℕ)) (count : ℕ) (end : ℕ × List ℕ) (is : option_map (end_of count) old ≡ Some end) (over : Bool)
     (k : (t : List ℕ) → old ≡ Some t → mid ≡ Some t) (at : (t : List ℕ) → old ≡ Some t → over ≡ is_at_next t) where
   text : (t : List ℕ) × (old ≡ Some t) × (end_of count t ≡ end)
-  text = known (end_of count) old end is
+  text = map_some (end_of count) old end is
 
   -- another one begins
   pub body_found : (front : List ℕ) (found : Front) (more : ℕ) → more ≡ count → over ≡ true → ((t : List ℕ) → old ≡ Some t → IsFront found front t) → PassesBody true end mid front more

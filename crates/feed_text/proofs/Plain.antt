@@ -25,7 +25,7 @@ use Rattle.feed_text.proofs.WrittenStrings.{written_string_says, written_is_quot
 below_space : (b c : ℕ) → is_unescaped b ≡ true → c < 32 → (b == c) ≡ false
 below_space b c h lt = ne_eqb b c (λ e. absurd (omega (arith, leb-true 32 b (both_true (leb 32 b) _ h).0)))
 
-printable : (b : ℕ) → is_unescaped b ≡ true → nat_lt b 32 ≡ false
+pub printable : (b : ℕ) → is_unescaped b ≡ true → nat_lt b 32 ≡ false
 printable b h = le-ltb b 32 (leb-true 32 b (both_true (leb 32 b) _ h).0)
 
 same_byte : (b : ℕ) → is_unescaped b ≡ true → written_byte b ≡ b ∷ []
