@@ -3,8 +3,7 @@ use Rattle.std.proofs.Common.{◌≡◌, inl, inr, ⊎_elim, ℕ, ◌+◌, ◌-�
 use Rattle.std.specs.Prelude.{nat_lt}
 use Rattle.std.specs.List.{flat_map}
 use Rattle.std.proofs.Math.Seq.{take-length}
-use Rattle.std.proofs.lemmas.Bool.{cond_both}
-use Rattle.std.proofs.lemmas.Bool.Decides.{nat_tests}
+use Rattle.std.proofs.lemmas.Bool.{cond_both, ltb-true as less_so, le-ltb as not_less, ltb-false as at_most_so}
 use Rattle.std.proofs.lemmas.List.{take-append-le, take_all}
 use Rattle.httparse.specs.Grammar.{ResponseHead, print_response, ReadsResponse}
 use Rattle.httparse.proofs.GrammarLemmas.{response_prefix_free}
@@ -22,7 +21,7 @@ use Rattle.feed_answer.specs.Carried.{standing_at, ended_at, refusal_standing}
 use Rattle.feed_answer.specs.FollowLaws.{StandsOnly, HeadsAreRead, ResponsesAreFollowed, EndsAreFollowed, PrefixesCarryMore, WholeCarriesAll, RefusalsAreFollowed}
 use Rattle.feed_wire.proofs.FrameLemmas.{frames_end}
 use Rattle.feed_wire.proofs.PrefixLemmas.{take_past, prefix_carried, chunks_prefix, plain_prefix, ended_prefix, all_carried, more_carried}
-use Rattle.feed_wire.proofs.OurHeads.{IsWritten, feed_tree, feed_written, refusal_tree, refusal_written, refusal_status, below as less_so}
+use Rattle.feed_wire.proofs.OurHeads.{IsWritten, feed_tree, feed_written, refusal_tree, refusal_written, refusal_status}
 use Rattle.feed_answer.proofs.HeadsFollowed.{feed_codings, feed_lengths, feed_behind, feed_done, refusal_codings, refusal_lengths, refusal_behind}
 use Rattle.feed_wire.proofs.ResponseLemmas.{line_count-append}
 
@@ -121,12 +120,6 @@ module _ (once : StandsOnce) (text rest : List ℕ) (head : ResponseHead)
         only_so standing (inr (head, tail, begins, stands))
 
 -- ---- numbers
-
-not_less : (n m : ℕ) → m ≤ n → nat_lt n m ≡ false
-not_less n m h = grind (arith, nat_tests)
-
-at_most_so : (n m : ℕ) → nat_lt n m ≡ false → m ≤ n
-at_most_so n m h = grind (arith, nat_tests)
 
 -- ---- answers with the feed
 

@@ -1,6 +1,7 @@
 -- Lemmas on what the words of a command line ask for.
 use Rattle.std.proofs.Common.{◌≡◌, sym, subst, inl, inr, ap, ap₂, ◌∙◌, refl, ℕ, ◌<◌, ◌≤◌, ◌^◌, ◌∷◌, [], Bool, List, Option, Some, None, Result, Ok, Err, option_map, true, false, codes, IfSome}
 use Rattle.std.proofs.lemmas.Slice.Eq.{bytes_eq-Decides}
+use Rattle.std.proofs.lemmas.Bool.{and_parts as both_true}
 use Rattle.std.specs.List.{list_all, list_any}
 use Rattle.std.specs.Option.{option_map_or}
 use Rattle.std.specs.Str.{bytes_eq}
@@ -190,10 +191,6 @@ asks_nothing words k (reply.Shown text) by (inr e) = subst (RefusesBy words) e b
 
 true_is_not_false : true ≡ false → ⊥
 true_is_not_false e = absurd (cc)
-
-both_true : (a b : Bool) → (a && b) ≡ true → (a ≡ true) × (b ≡ true)
-both_true true b e = (refl, e)
-both_true false b e = absurd (cc)
 
 -- a command with an option that has a rule on another one takes no words
 tied_takes_none : (s : Shape) (words : List Text) → list_all (λ r. r.is_free) s.rules ≡ false

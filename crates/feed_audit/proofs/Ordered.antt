@@ -2,9 +2,9 @@
 use Rattle.std.proofs.lemmas.List.{take-append-drop}
 use Rattle.std.proofs.Math.Seq.{drop-cons, take-suc}
 use Rattle.std.specs.List.{slice_get}
-use Rattle.std.proofs.Common.{◌<◌, ◌≤◌, ◌+◌, suc, arith, take, drop, get_or, length-drop, add-one, ◌≡◌, ◌≢◌, ◌&&◌, refl, sym, ap, ◌∙◌, subst, ℕ, Bool, true, false, cond, T, List, [], ◌∷◌, ◌++◌, map, flat_map, length, Option, None, Some, is_some}
+use Rattle.std.proofs.Common.{◌<◌, ◌≤◌, ◌+◌, suc, arith, take, drop, get_or, length-drop, add-one, ◌≡◌, ◌≢◌, refl, sym, ap, ◌∙◌, subst, ℕ, Bool, true, false, cond, T, List, [], ◌∷◌, ◌++◌, map, flat_map, length, Option, None, Some, is_some}
 use Rattle.std.specs.Option.{option_cmp, option_and_then}
-use Rattle.std.specs.Ordering.{eq_by_cmp, is_eq, is_lt, ordering_then, on}
+use Rattle.std.specs.Ordering.{eq_by_cmp, is_eq, ordering_then, on}
 use Rattle.std.specs.Cmp.{IsTotalOrder, on_total, then_total}
 use Rattle.std.specs.Cmp.Lexicographic.{options_total}
 use Rattle.std.specs.declared.cmp.Ordering.{Ordering}
@@ -19,7 +19,7 @@ use Rattle.feed_changes.specs.declared.change.Change.{Change}
 use Rattle.feed_changes.specs.declared.change.Change.TheVariants.{Set, Remove, Empty, Single, Clear}
 use Rattle.feed_tables.specs.declared.table.Table.{Table}
 use Rattle.feed_tables.specs.declared.table.Table.TheVariants.{One, Many}
-use Rattle.feed_tables.proofs.Entries.{first, second, less, equal, earlier, find_below, find_skip, find_stop, find_here, find_before, below_right, below_trans}
+use Rattle.feed_tables.proofs.Entries.{first, second, less, equal, earlier, find_below, find_skip, find_stop, find_here, find_before, below_right, below_trans, both, is_less}
 use Rattle.feed_changes.proofs.Order.{total}
 use Rattle.feed_tables.proofs.Maps.{byte_order_antisymmetric}
 use Rattle.feed_audit.specs.Differences.{object_side, type_side, side_at, DifferFirst}
@@ -102,13 +102,6 @@ side_of_table : (contents : Contents) (p : PlaceAt) → side_at contents p.0 p.1
 unfolding table_side
 side_of_table contents (kind, None) = ap (λ t. type_side (option_and_then as_singleton t) (is_some (collection_of t))) (get-entries contents kind)
 side_of_table contents (kind, Some id) = ap (λ t. object_side (option_and_then (object_of id) t)) (get-entries contents kind)
-
-both : (a b : Bool) → T a → T b → T (a && b)
-both true b p q = q
-both false b p q = p
-
-is_less : (r : Ordering) → r ≡ Less → T (is_lt r)
-is_less r e = subst (λ r. T (is_lt r)) (sym e) tt
 
 -- ---- their order
 

@@ -14,7 +14,8 @@ use Rattle.feed_commands.specs.Fault.{fault_of_audit}
 use Rattle.feed_commands.specs.declared.fault.Fault.{Fault}
 use Rattle.feed_commands.specs.declared.fault.Fault.TheVariants as fault
 
-keeps_itself : (bytes : Option (List ℕ)) → Keeps bytes bytes
+-- what was not written to stays as it was
+pub keeps_itself : (bytes : Option (List ℕ)) → Keeps bytes bytes
 keeps_itself None = tt
 keeps_itself (Some bytes) = refl
 

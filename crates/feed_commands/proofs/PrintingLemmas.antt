@@ -1,5 +1,5 @@
 -- Lemmas on texts that are written to a device one after the other.
-use Rattle.std.proofs.Common.{Result, Ok, Err, OnErr, ◌≡◌, refl, sym, ap, ◌∙◌, ℕ, ◌+◌, ◌<◌, Bool, true, false, List, [], ◌∷◌, ◌++◌, length, take, get_or, MutBor, append_assoc, append-nil, Option, Some, None, subst, codes, flat_map}
+use Rattle.std.proofs.Common.{◌≡◌, refl, sym, ap, ◌∙◌, ℕ, ◌+◌, ◌<◌, Bool, true, false, List, [], ◌∷◌, ◌++◌, length, take, get_or, MutBor, append_assoc, append-nil, Option, Some, None, subst, codes, flat_map}
 use Rattle.std.specs.FinMap.{entries}
 use Rattle.std.specs.Io.KnownBytes.{Appends}
 use Rattle.std.specs.List.{FoldsTo}
@@ -134,11 +134,6 @@ members_written kind id content =
     ap (λ l. l ++ content)
     (sym (append_assoc x (quotation_mark ∷ b ++ id) c)
     ∙ ap (λ l. l ++ c) (sym (append_assoc x (quotation_mark ∷ b) id) ∙ ap (λ l. l ++ id) begun))
-
--- what holds holds on an error
-pub on_any_err : {A E : Type 0} (r : Result A E) (P : Type 0) → P → OnErr r P
-on_any_err (Ok a) P p = tt
-on_any_err (Err e) P p = p
 
 -- a line behind what stands before it
 pub line_written : (before kind id content : List ℕ)

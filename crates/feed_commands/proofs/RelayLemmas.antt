@@ -1,5 +1,5 @@
 -- Lemmas on rounds that are made one after another.
-use Rattle.std.proofs.Common.{◌≡◌, inl, inr, refl, sym, subst, ◌<◌, true, false, IfErr, OnOk, List, ℕ, Option, None, Some, Result, Ok, Err}
+use Rattle.std.proofs.Common.{◌≡◌, inl, inr, sym, subst, ◌<◌, true, false, IfErr, OnOk, List, ℕ, Result, Ok, Err}
 use Rattle.std.specs.Io.KnownBytes.{Keeps}
 use Rattle.feed_node.specs.Texts.{published_text}
 use Rattle.feed_node.specs.Mirroring.{MirrorState}
@@ -20,11 +20,6 @@ use Rattle.feed_http.specs.Exchange.{Wrote}
 use Rattle.feed_commands.specs.Reporting.{FailsAs}
 use Rattle.feed_commands.specs.declared.fault.Fault.{Fault}
 use Rattle.feed_commands.specs.declared.fault.Fault.TheVariants as fault
-
--- what was not written to stays as it was
-pub keeps_same : (bytes : Option (List ℕ)) → Keeps bytes bytes
-keeps_same None = tt
-keeps_same (Some xs) = refl
 
 module _ {D R W A S T : Type 0} (dialer : Dialer D R W) (links : Links A S T)
     (servers : List Server) (most_reads : ℕ) (service : Service) where

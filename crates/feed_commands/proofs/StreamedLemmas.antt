@@ -11,12 +11,14 @@ use Rattle.std.proofs.lemmas.List.Sums.{count_by-le-length, sum_by-cons}
 use Rattle.std.proofs.lemmas.Slice.Zip.{AllZip-long}
 use Rattle.feed_text.specs.Limits.{line_bytes}
 use Rattle.feed_text.proofs.Unique.{text_determines_object}
+use Rattle.feed_text.proofs.Lists.{each-append}
 use Rattle.feed_note.proofs.ChangeBounds.{changes-le-bytes}
 use Rattle.feed_note.proofs.Counting.{counts_more}
-use Rattle.feed_note.proofs.LinesCut.{both, first_true, second_true, one_line, no_lines, no_rest, lines_are_the_only_cut, rest_behind}
+use Rattle.feed_note.proofs.LinesCut.{one_line, no_lines, no_rest, lines_are_the_only_cut, rest_behind}
 use Rattle.feed_note.proofs.LongLines.{long_next_stays}
 use Rattle.feed_note.proofs.OneMeaning.{only_one}
-use Rattle.feed_note.proofs.ReadSoFar.{change_count}
+use Rattle.feed_note.proofs.ReadSoFar.{change_count, zip_more}
+use Rattle.feed_note.proofs.LineEnds.{unbroken_both}
 use Rattle.feed_note.specs.Counts.{IsRead, Stops, StopsAt, Counted, counts_of, is_keep_alive, is_note, has_token}
 use Rattle.feed_note.specs.Lines.{HasNoLineFeed, lines, rest, ended}
 use Rattle.feed_note.specs.Notes.{token_in}
@@ -40,16 +42,6 @@ use Rattle.feed_commands.specs.declared.commands.streamed.Reading.{Reading}
 use Rattle.feed_commands.proofs.FindingsLemmas.{HasAll, is_again, has_more, of_each_length, found_first, found_push, found_on, found_fit, zip_push, token_more}
 
 -- ---- lists
-
-pub each_push : {X : Type 0} (P : X → Type 0) (xs : List X) (x : X) → AllByRecursion P xs → P x → AllByRecursion P (xs ++ x ∷ [])
-each_push P [] x h k = (k, tt)
-each_push P (y ∷ ys) x h k = (h.0, each_push P ys x h.1 k)
-
-read_push : (xs : List (List ℕ)) (ys : List Line) (x : List ℕ) (y : Line) → AllZip IsRead xs ys → IsRead x y → AllZip IsRead (xs ++ x ∷ []) (ys ++ y ∷ [])
-read_push [] [] x y h k = (k, tt)
-read_push [] (b ∷ bs) x y h k = absurd h
-read_push (a ∷ ls) [] x y h k = absurd h
-read_push (a ∷ ls) (b ∷ bs) x y h k = (h.0, read_push ls bs x y h.1 k)
 
 -- the bytes of lines, with one line before them, and with one behind them
 ended_first : (l : List ℕ) (ls : List (List ℕ)) → length (ended (l ∷ ls)) ≡ length l + 1 + length (ended ls)
@@ -238,8 +230,8 @@ noted_more passed notes line note old new read h is (said, s, takes) =
 pub tallied_more : (passed : List (List ℕ)) (notes : List Line) (line : List ℕ) (old new : Tally) (t : CountsLine line old new) → AreTallied passed notes old → HasNoLineFeed line
     → AreTallied (passed ++ line ∷ []) (notes ++ t.note ∷ []) new
 tallied_more passed notes line old new t h part = record {
-  whole = each_push HasNoLineFeed passed line h.whole part;
-  read = read_push passed notes line t.note h.read t.read;
+  whole = each-append HasNoLineFeed passed line h.whole part;
+  read = zip_more passed notes line t.note h.read t.read;
   counts_are = counts_more notes t.note old.counts new.counts h.counts_are t.counts;
   found = λ v. noted_more passed notes line t.note old.reader new.reader h.read (h.found (sym t.verbose ∙ v)) t.read (t.found (sym t.verbose ∙ v));
 }
@@ -331,10 +323,6 @@ taken_none verbose reading none zero is noted = record {
   short = let size = ap length none in omega arith;
   verbose_is = is;
 }
-
-unbroken_both : (x y : List ℕ) → HasNoLineFeed x → HasNoLineFeed y → HasNoLineFeed (x ++ y)
-unbroken_both [] y h k = k
-unbroken_both (b ∷ x) y h k = both _ _ (first_true _ _ h) (unbroken_both x y (second_true _ _ h) k)
 
 module _ (verbose : Bool) (text : List ℕ) (old : Reading) (h : HasTaken verbose text old) (end : List ℕ) (part : HasNoLineFeed end) where
   -- the line that is left gets too long

@@ -2,6 +2,7 @@
 use Rattle.std.proofs.Common.{◌≡◌, inl, inr, refl, sym, ap, ◌∙◌, subst, ℕ, zero, suc, Bool, true, false, List, [], ◌∷◌, ◌++◌, append_assoc, length, take, arith}
 use Rattle.std.specs.Prelude.{Option, Some, None, nat_lt, if◌then◌else◌, option_map, unwrap_or}
 use Rattle.std.proofs.lemmas.List.{take_all}
+use Rattle.std.proofs.lemmas.Bool.{ltb-true as below}
 use Rattle.httparse.specs.Grammar.{ReadsResponse}
 use Rattle.httparse.proofs.GrammarLemmas.{response_prefix_free}
 use Rattle.feed_wire.specs.declared.chunk.Chunking.{Chunking}
@@ -12,7 +13,6 @@ use Rattle.feed_follow.specs.declared.fault.FollowFault.TheVariants.{LongHead, B
 use Rattle.feed_wire.specs.ChunkReading.{next, brought_by}
 use Rattle.feed_follow.specs.Standing.{Standing, in_head, token_refused, in_body, done, failed, Stands, StandsInHead, StandsInBody, StandsBehind, verdict}
 use Rattle.feed_follow.specs.Carrying.{HasPayload, BodyBrings, FeedsCarryText}
-use Rattle.feed_wire.proofs.ChunkReading.{below}
 use Rattle.feed_follow.proofs.OnceLemmas.{behind, is_end, comes_to, body_comes_to, body_is}
 
 -- the text begins with the payload

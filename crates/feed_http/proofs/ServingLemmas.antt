@@ -43,6 +43,10 @@ token_at [] k c e = let same : ◌≡◌ {A = Option Commit} None (Some c) = e i
 token_at (d ∷ kept) zero c e = let same : ◌≡◌ {A = Option Commit} (Some d) (Some c) = e in (omega arith, let is : d ≡ c = cc in ap (λ x. x.token) is)
 token_at (d ∷ kept) (suc k) c e = let more = token_at kept k c e in (omega (arith, more.0), more.1)
 
+pub or_lost_new : (o : Option Commit) → or_lost o ≢ Nothing_new
+or_lost_new None e = let same : Lost ≡ Nothing_new = e in absurd (cc)
+or_lost_new (Some c) e = let same : Commit_after c ≡ Nothing_new = e in absurd (cc)
+
 pub or_lost_some : (o : Option Commit) (c : Commit) → or_lost o ≡ Commit_after c → o ≡ Some c
 or_lost_some None c e = let same : Lost ≡ Commit_after c = e in absurd (cc)
 or_lost_some (Some d) c e = let same : Commit_after d ≡ Commit_after c = e in let is : d ≡ c = cc in ap Some is

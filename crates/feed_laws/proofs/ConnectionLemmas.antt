@@ -31,6 +31,7 @@ use Rattle.feed_laws.specs.Connections.{FollowsServed, NodesAreFollowed, MeetsLo
 use Rattle.feed_laws.specs.Follows.{HasAskedSo, FollowsInLog, ArrivesInLog}
 use Rattle.feed_laws.specs.Laws.{StandsInLog, AreInLog, ScreensAreConnections}
 use Rattle.feed_hub.specs.Told.{Told, told_none, told_commit, told_line_feed, told_text, IsGoing}
+use Rattle.feed_hub.proofs.ServedLemmas.{one_fits}
 use Rattle.feed_laws.proofs.FollowLemmas.{begun_in_log, is_refusal, refusal_follows, ended_follows, ended_arrives}
 use Rattle.feed_world.proofs.Responses.{frame_length}
 use Rattle.feed_http.proofs.RestLemmas.{commit_is_other as commit_is}
@@ -185,11 +186,6 @@ ends_at opening frames last tail begun rest split =
     ∙ ap (λ t. opening ++ t) (append_assoc frames last tail ∙ ap (λ t. frames ++ t) split
     ∙ sym (append_assoc frames begun rest))
     ∙ sym (append_assoc opening (frames ++ begun) rest)
-
-texts_and : (texts : List (List ℕ)) (text : List ℕ) → AreTexts texts → length text < 2 ^ 64
-    → AreTexts (texts ++ text ∷ [])
-texts_and [] text fit one = (one, tt)
-texts_and (first ∷ texts) text (here, fit) one = (here, texts_and texts text fit one)
 
 told_one : (answer : AnswerParts) (texts : List (List ℕ)) (text : List ℕ)
     → told_text answer (texts ++ text ∷ [])
@@ -384,7 +380,7 @@ module _ (connects : ScreensAreConnections) (opens_so : SessionsOpenAsAsked)
           (all_more log node nodes (meets opened session sent now token run) all) session
           (told_commit texts token node commit (told_cons node nodes opened texts token told)
           (head_of node nodes) (commit_is node token commit e))
-          opening_fits (texts_and texts (commit_text commit) (fit_of sent last is) (next_fits token commit e))
+          opening_fits (one_fits texts (commit_text commit) (fit_of sent last is) (next_fits token commit e))
           (rest ++ end)
           (ap (λ t. t ++ end) (told_one answer texts (commit_text commit))
           ∙ ends_at answer.text (commit_frames answer.framing sent) (frame answer.framing (commit_text commit)) end last (rest ++ end)
@@ -405,7 +401,7 @@ module _ (connects : ScreensAreConnections) (opens_so : SessionsOpenAsAsked)
           let line = line_feed ∷ [] in
           going_part limits log is_log start.primary.node node_in head contest framing answer begun a answers text
           nodes opened token (texts ++ line ∷ []) all session (told_line_feed texts token told) opening_fits
-          (texts_and texts line (fit_of sent last is) (omega arith)) rest
+          (one_fits texts line (fit_of sent last is) (omega arith)) rest
           (ap (λ t. t ++ end) (told_one answer texts line)
           ∙ ends_at answer.text (commit_frames answer.framing sent) (frame answer.framing line) end last rest split
           ∙ ap (λ t. t ++ rest) (sym is))

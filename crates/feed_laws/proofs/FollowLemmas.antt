@@ -1,6 +1,6 @@
 -- What a mirror makes of all that a screen was handed.
 use Rattle.std.proofs.Common.{◌≡◌, ◌≢◌, refl, sym, ap, ◌∙◌, subst, ℕ, zero, suc, ◌+◌, ◌-◌, ◌<◌, ◌≤◌, ◌^◌, length-append, max, min, Bool, true, false, true≢false, List, [], ◌∷◌, ◌++◌, ◌⊎◌, inl, inr, length, take, drop, Option, Some, None, append_assoc, append-nil, arith, nat_lt}
-use Rattle.std.specs.Prelude.{Contains, if◌then◌else◌, is_none, is_some, ◌&&◌, ◌==◌, Result, Ok, Err}
+use Rattle.std.specs.Prelude.{Contains, if◌then◌else◌, is_none, is_some, Result, Ok, Err}
 use Rattle.std.proofs.Math.Seq.{take-length}
 use Rattle.std.proofs.lemmas.Bool.Decides.{nat_tests}
 use Rattle.std.proofs.lemmas.List.{take_min, take-append-le, take-append-drop}
@@ -18,7 +18,7 @@ use Rattle.feed_follow.specs.Following.{Leaves, Fails}
 use Rattle.feed_follow.specs.Standing.{Standing, in_head, token_refused, in_body, done, failed, Stands}
 use Rattle.feed_wire.specs.declared.refusal.Refusal.{Refusal}
 use Rattle.feed_wire.specs.declared.refusal.Refusal.TheVariants.{NothingPublished, TokenNotHeld}
-use Rattle.feed_wire.specs.Answer.{feed_head, refusal_code, refusal_head, refusal_text}
+use Rattle.feed_wire.specs.Answer.{feed_head, refusal_code, refusal_text}
 use Rattle.feed_answer.specs.Answered.{AnswerParts, AnswersTo, answer_to, answer_opened, refusing}
 use Rattle.feed_wire.specs.Asked.{Asked, refused, feed, framing_for}
 use Rattle.feed_wire.specs.CarriedBytes.{response_text, ended_text, carried_by}
@@ -43,6 +43,7 @@ use Rattle.feed_laws.specs.Follows.{MayAskWith, HasAskedSo, MayStop, FollowsInLo
 use Rattle.feed_laws.proofs.LawLemmas.{connection, its_text, is_opened}
 use Rattle.feed_laws.proofs.OpeningLemmas.{due_is_response}
 use Rattle.feed_world.proofs.Responses.{frame_length}
+use Rattle.feed_world.proofs.Refused.{at_of}
 
 -- a prefix of bytes is one of them and more
 prefix_of : (bytes rest : List ℕ) (n : ℕ) → take n bytes ≡ take (min n (length bytes)) (bytes ++ rest)
@@ -93,15 +94,6 @@ IsOfRefusal (done payload) = ⊥
 IsOfRefusal (failed (Status n) payload) = Unit {0}
 IsOfRefusal (failed fault payload) = ⊥
 
-refusal_is_of : (refusal : Refusal) (had : Bool) (n : ℕ) → IsOfRefusal (refusal_at had refusal n)
-refusal_is_of refusal had n = by (nat_lt n (length (refusal_head refusal))) ((refusal_code refusal == 400) && had)
-  where
-    by : (a b : Bool)
-        → IsOfRefusal (if a then in_head else (if b then token_refused else failed (Status (refusal_code refusal)) []))
-    by true b = tt
-    by false true = tt
-    by false false = tt
-
 leaves_node : (begun mirror : MirrorState) (s : Standing) → IsOfRefusal s → Leaves begun s mirror
     → mirror.node ≡ begun.node
 leaves_node begun mirror in_head is l = ap (λ m. m.node) l
@@ -139,7 +131,7 @@ module _ (refusals : RefusalsAreFollowed) (keep : RefusalsKeepNodes) (limits : L
       let same : s ≡ refusal_at follower.had_token refusal m =
       (refusals refusal m follower.had_token).only s (subst (λ bs. Stands follower.had_token bs s) (cut_of n) f.stands) in
       moved_in limits log begun.node mirror.node
-      (leaves_node begun mirror s (subst IsOfRefusal (sym same) (refusal_is_of refusal follower.had_token m)) f.leaves) in_log
+      (leaves_node begun mirror s (subst IsOfRefusal (sym same) (at_of refusal follower.had_token m)) f.leaves) in_log
 
   refusal_fails : (before piece later : List ℕ) (mirror : MirrorState) (fault : FollowFault)
       → (before ++ piece) ++ later ≡ handed

@@ -42,6 +42,7 @@ use Rattle.feed_laws.specs.Files.{ReachesOn, FollowsFile, FilesFollow, FilesFoll
 use Rattle.feed_laws.proofs.LawLemmas.{screens_connect, connection, its_text, is_opened}
 use Rattle.feed_laws.proofs.FileLemmas.{begun, files_restore, reads_on_in_log}
 use Rattle.feed_node.proofs.Bounds.{large_listing}
+use Rattle.feed_text.proofs.Lists.{all-append}
 
 -- ---- lines that are good are taken
 
@@ -206,16 +207,12 @@ module _ (read : SentIsRead) (limits : Limits) (log : Log) (own : Position) (is_
 
 -- ---- what a record begins with
 
-all_of : {X : Type 0} (P : X → Type 0) (xs ys : List X) → AllByRecursion P xs → AllByRecursion P ys → AllByRecursion P (xs ++ ys)
-all_of P [] ys h k = k
-all_of P (x ∷ xs) ys h k = (h.0, all_of P xs ys h.1 k)
-
 module _ (limits : Limits) (log : Log) (is_log : IsLog limits log) where
   all_within : (k : ℕ) → k ≤ length log.commits → AllByRecursion IsChange (log.first ++ all_changes (take k log.commits))
   all_within zero within = subst (AllByRecursion IsChange) (sym (append-nil log.first)) is_log.first
   all_within (suc k) within =
       subst (AllByRecursion IsChange) (sym (one_more log k (omega arith)))
-      (all_of IsChange _ _ (all_within k (omega arith)) (is_log.accepted (suc k) (omega arith) within).changes)
+      (all-append IsChange _ _ (all_within k (omega arith)) (is_log.accepted (suc k) (omega arith) within).changes)
 
   pub is_small : (k : ℕ) → k ≤ length log.commits → is_large limits (state_after log k) ≡ false
   is_small zero within = is_log.small

@@ -1,6 +1,5 @@
 -- What is followed in a log is an honest response, or an honest input.
-use Rattle.std.proofs.Common.{◌≡◌, sym, ap, ◌∙◌, subst, ℕ, Bool, List, ◌++◌, take, length, append_assoc, Option}
-use Rattle.std.proofs.Math.Seq.{take-append_seam}
+use Rattle.std.proofs.Common.{◌≡◌, sym, ap, ◌∙◌, subst, ℕ, Bool, List, ◌++◌, length, append_assoc, Option}
 use Rattle.feed_settings.specs.Limits.{Limits}
 use Rattle.feed_note.specs.declared.line.Line.{Line}
 use Rattle.feed_node.specs.declared.fault.FeedFault.{FeedFault}
@@ -13,6 +12,7 @@ use Rattle.feed_answer.specs.Answered.{AnswerParts}
 use Rattle.feed_world.specs.Log.{Log}
 use Rattle.feed_world.specs.Position.{Position}
 use Rattle.feed_world.specs.Reading.{opening_at}
+use Rattle.feed_world.proofs.Brought.{prefix_is}
 use Rattle.feed_laws.specs.Follows.{FollowsInLog}
 use Rattle.feed_laws.specs.Laws.{IsInLog, ShowsState, ScreensShowStates}
 use Rattle.feed_live.specs.Laws.{RelaysShowTheLog, FollowedIsHonest, InputShowsTheLog, ShownIsHonest, SentIsHonest}
@@ -21,9 +21,6 @@ use Rattle.feed_live.specs.Upstream.{StaysInLog}
 use Rattle.feed_live.proofs.ScreenLemmas.{sockets_are_faithful}
 use Rattle.feed_live.proofs.StateLemmas.{states_in_log, states_within, honest_however}
 
-pub begins : (before behind text : List ℕ) → before ++ behind ≡ text → take (length before) text ≡ before
-begins before behind text is = ap (λ t. take (length before) t) (sym is) ∙ take-append_seam before behind
-
 pub stays : {limits : Limits} {log : Log} {begun : MirrorState} (answer : AnswerParts) (received behind text : List ℕ) → received ++ behind ≡ text
     → FollowsInLog limits log answer begun text → StaysInLog limits log begun 0 received
 stays {begun = begun} answer received behind text is follows =
@@ -31,7 +28,7 @@ stays {begun = begun} answer received behind text is follows =
       shows = λ before later standing follower mirror here long at.
           follows.shows (length before) standing follower mirror
           (subst (λ b. FollowsAt begun b standing follower mirror)
-          (sym (begins before (later ++ behind) text (sym (append_assoc before later behind) ∙ ap (λ r. r ++ behind) here ∙ is))) at);
+          (sym (prefix_is before (later ++ behind) text (sym (append_assoc before later behind) ∙ ap (λ r. r ++ behind) here ∙ is))) at);
       fails = λ before piece later mirror fault here long failed.
           (follows.fails before piece (later ++ behind) mirror fault (sym (append_assoc (before ++ piece) later behind) ∙ ap (λ r. r ++ behind) here ∙ is) failed).1;
     }

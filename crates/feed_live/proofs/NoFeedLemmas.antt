@@ -14,9 +14,9 @@ use Rattle.feed_wire.specs.Answer.{refusal_code, refusal_head, refusal_text}
 use Rattle.feed_answer.specs.Carried.{refusal_at}
 use Rattle.feed_answer.specs.FollowLaws.{StandsOnly, RefusalsAreFollowed}
 use Rattle.feed_world.specs.Log.{Log}
+use Rattle.feed_world.proofs.Brought.{prefix_is}
 use Rattle.feed_laws.specs.Laws.{IsInLog}
 use Rattle.feed_live.specs.Upstream.{StaysInLog}
-use Rattle.feed_live.proofs.HonestLemmas.{begins}
 
 -- a response that stands so has brought nothing
 abbrev pub BringsNone : Standing → Type 0
@@ -66,7 +66,7 @@ module _ (begun : MirrorState) (text : List ℕ) (none : CarriesNone text) where
   at : (had : Bool) (bytes behind : List ℕ) (s : Standing) → bytes ++ behind ≡ text → Stands had bytes s → BringsNone s
   at had bytes behind s is stands =
       let there = none had (length bytes) in
-      let same : s ≡ there.0 = there.1.only s (subst (λ b. Stands had b s) (sym (begins bytes behind text is)) stands) in
+      let same : s ≡ there.0 = there.1.only s (subst (λ b. Stands had b s) (sym (prefix_is bytes behind text is)) stands) in
       subst BringsNone (sym same) there.2
 
   no_payload : (had : Bool) (bytes behind payload : List ℕ) → bytes ++ behind ≡ text → Brings had bytes payload → ⊥

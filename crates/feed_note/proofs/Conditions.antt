@@ -2,7 +2,7 @@
 use Rattle.std.proofs.Common.{◌≡◌, refl, sym, ap, ◌∙◌, subst, ℕ, Bool, true, false, not, ◌||◌, ◌&&◌, cond, true≢false, List, [], ◌∷◌, length, Option, Some, None, append-nil}
 use Rattle.std.specs.Prelude.{MatchResult, Result, Ok, Err, is_none, nat_lt, option_map, option_and_then, option_to_list, flat_map}
 use Rattle.std.specs.List.{list_any}
-use Rattle.std.proofs.lemmas.Bool.{and_right}
+use Rattle.std.proofs.lemmas.Bool.{and_right, or_right, or_from as neither}
 use Rattle.feed_text.specs.Json.{Value, kind_of, items_of, null_literal, true_literal, false_literal, number, string, empty_array, array, empty_object, object}
 use Rattle.feed_text.specs.Members.{Spelling, spelling_of}
 use Rattle.feed_text.specs.declared.Kind.{Kind}
@@ -100,10 +100,6 @@ pub content_found : (m : Option Value) (s : Spelling) → Some s ≡ option_map 
 content_found None s e = absurd cc
 content_found (Some v) s e = (v, refl, cc)
 
-pub content_absent : (m : Option Value) → None ≡ option_map spelling_of m → m ≡ None
-content_absent None e = refl
-content_absent (Some v) e = absurd cc
-
 pub no_items : (v : Value) → is_array (kind_of v) ≡ false → items_of v ≡ []
 no_items null_literal e = refl
 no_items true_literal e = refl
@@ -176,13 +172,6 @@ bad_is_none v = by (is_object (kind_of v)) (element_id v)
     by false o = refl
     by true None = refl
     by true (Some w) = named (nat_lt 255 (length w)) w
-
-or_right : (a b : Bool) → b ≡ true → (a || b) ≡ true
-or_right true b e = refl
-or_right false b e = e
-
-neither : (a b : Bool) → a ≡ false → b ≡ false → (a || b) ≡ false
-neither a b e f = rw (e, f) refl
 
 -- what is gathered of some values is what is kept of the first one, and what is gathered of the
 -- others

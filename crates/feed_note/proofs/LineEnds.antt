@@ -6,17 +6,18 @@ use Rattle.std.proofs.Math.Seq.{take-add}
 use Rattle.std.proofs.lemmas.List.{take-append-drop, drop-drop, length-take-le}
 use Rattle.std.proofs.lemmas.List.Folds.{list_all-append}
 use Rattle.std.proofs.lemmas.List.Sums.{prefix_len_stops, split_at_first, position_or_len_is}
+use Rattle.std.proofs.lemmas.Bool.{and_from as both}
 use Rattle.feed_text.specs.Limits.{line_bytes}
 use Rattle.feed_note.specs.Lines.{is_line_feed, lines, rest, HasNoLineFeed}
 use Rattle.feed_note.specs.Splitting.{EndsAt, Gives, GivesNone, IsLongNext, first_or, next_of}
-use Rattle.feed_note.proofs.LinesCut.{both, no_lines, one_line, no_rest}
+use Rattle.feed_note.proofs.LinesCut.{no_lines, one_line, no_rest}
 
 abbrev stays : ℕ → Bool
 stays b = not (is_line_feed b)
 
 -- ---- the first line feed that a search finds
 
-take_one : (n x : ℕ) (xs : List ℕ) → take (1 + n) (x ∷ xs) ≡ x ∷ take n xs
+pub take_one : (n x : ℕ) (xs : List ℕ) → take (1 + n) (x ∷ xs) ≡ x ∷ take n xs
 take_one n x xs = grind arith
 
 unbroken_prefix : (xs : List ℕ) → HasNoLineFeed (take (position_or_len is_line_feed xs) xs)

@@ -1,27 +1,10 @@
 -- A text is cut into its lines and its rest, and in no other way.
-use Rattle.std.proofs.Common.{◌≡◌, refl, sym, ap, ◌∙◌, subst, ℕ, Bool, true, false, not, ◌&&◌, true≢false, List, [], ◌∷◌, ◌++◌, length, drop, cond, append_assoc, eqb-true}
+use Rattle.std.proofs.Common.{◌≡◌, refl, sym, ap, ◌∙◌, subst, ℕ, Bool, true, false, not, List, [], ◌∷◌, ◌++◌, length, drop, cond, append_assoc, eqb-true}
+use Rattle.std.proofs.lemmas.Bool.{and_from as both, not-true as negated}
+use Rattle.std.proofs.Math.Seq.{drop-append_seam as drop_prefix}
 use Rattle.std.specs.List.{AllByRecursion}
 use Rattle.feed_note.specs.Lines.{is_line_feed, onto_first, lines, rest, ended, HasNoLineFeed, IsCutInto, LinesCut, LinesAreTheOnlyCut}
-
-pub both : (a b : Bool) → a ≡ true → b ≡ true → (a && b) ≡ true
-both true b p q = q
-both false b p q = p
-
-pub first_true : (a b : Bool) → (a && b) ≡ true → a ≡ true
-first_true true b e = refl
-first_true false b e = e
-
-pub second_true : (a b : Bool) → (a && b) ≡ true → b ≡ true
-second_true true b e = e
-second_true false b e = absurd (true≢false (sym e))
-
-pub negated : (a : Bool) → not a ≡ true → a ≡ false
-negated true e = absurd (true≢false (sym e))
-negated false e = refl
-
-drop_prefix : (a b : List ℕ) → drop (length a) (a ++ b) ≡ b
-drop_prefix [] b = refl
-drop_prefix (x ∷ a) b = drop_prefix a b
+use Rattle.feed_text.proofs.Choices.{first_true, second_true}
 
 -- ---- the lines are a cut
 

@@ -1,9 +1,11 @@
 -- A next line that is too long stays so, whatever follows.
 use Rattle.std.proofs.Common.{◌≡◌, refl, sym, ap, ◌∙◌, subst, ℕ, ◌<◌, ◌≤◌, not, false, List, [], ◌∷◌, ◌++◌, length, drop, cond, arith}
+use Rattle.std.proofs.lemmas.Bool.{not-true as negated}
 use Rattle.feed_text.specs.Limits.{line_bytes}
+use Rattle.feed_text.proofs.Choices.{first_true, second_true}
 use Rattle.feed_note.specs.Lines.{is_line_feed, onto_first, lines, rest, ended, HasNoLineFeed}
 use Rattle.feed_note.specs.Splitting.{first_or, next_of, IsLongNext, LongNextStays}
-use Rattle.feed_note.proofs.LinesCut.{lines_cut, first_true, second_true, negated}
+use Rattle.feed_note.proofs.LinesCut.{lines_cut}
 use Rattle.feed_note.proofs.LinesInRow.{lines-append, rest-append}
 
 lines-cons : (b : ℕ) (t : List ℕ) → is_line_feed b ≡ false → lines (b ∷ t) ≡ onto_first b (lines t)

@@ -17,7 +17,7 @@ left_fails : (a : Bool) → (a && true) ≡ false → a ≡ false
 left_fails true e = absurd (true≢false e)
 left_fails false e = refl
 
-no_text : (m : Option Value) → is_string (member_kind m) ≡ false → member_text m ≡ None
+pub no_text : (m : Option Value) → is_string (member_kind m) ≡ false → member_text m ≡ None
 no_text None e = refl
 no_text (Some null_literal) e = refl
 no_text (Some true_literal) e = refl

@@ -1,5 +1,5 @@
 -- The parts of a value that stands in a line stand in it too.
-use Rattle.std.proofs.Common.{◌≡◌, refl, sym, ap, ◌∙◌, subst, ℕ, suc, ◌≤◌, Bool, true, false, ◌&&◌, true≢false, List, [], ◌∷◌, ◌++◌, Option, Some, None, reverse, arith}
+use Rattle.std.proofs.Common.{◌≡◌, refl, sym, ap, ◌∙◌, subst, ℕ, suc, ◌≤◌, List, [], ◌∷◌, ◌++◌, Option, Some, None, reverse, arith}
 use Rattle.std.specs.Prelude.{IsUtf8, IfSome, option_map}
 use Rattle.std.specs.List.{AllByRecursion}
 use Rattle.std.proofs.lemmas.List.Folds.{list_all-append}
@@ -9,21 +9,14 @@ use Rattle.feed_text.specs.Strings.{says, last_named, last_member_named}
 use Rattle.feed_note.specs.Lines.{HasNoLineFeed}
 use Rattle.feed_note.specs.Reading.{IsPart, IsReadable, last_value_spelt}
 use Rattle.feed_text.proofs.Lists.{all-reverse, find_all}
-
-both_left : (a b : Bool) → (a && b) ≡ true → a ≡ true
-both_left true b e = refl
-both_left false b e = e
-
-both_right : (a b : Bool) → (a && b) ≡ true → b ≡ true
-both_right true b e = e
-both_right false b e = absurd (true≢false (sym e))
+use Rattle.feed_text.proofs.Choices.{first_true, second_true}
 
 -- a text without line feeds has none in its prefix and none in its rest
 pub prefix : (x y : List ℕ) → HasNoLineFeed (x ++ y) → HasNoLineFeed x
-prefix x y h = both_left _ _ (sym (list_all-append _ x y) ∙ h)
+prefix x y h = first_true _ _ (sym (list_all-append _ x y) ∙ h)
 
 pub behind : (x y : List ℕ) → HasNoLineFeed (x ++ y) → HasNoLineFeed y
-behind x y h = both_right _ _ (sym (list_all-append _ x y) ∙ h)
+behind x y h = second_true _ _ (sym (list_all-append _ x y) ∙ h)
 
 behind_byte : (b : ℕ) (y : List ℕ) → HasNoLineFeed (b ∷ y) → HasNoLineFeed y
 behind_byte b y h = behind (b ∷ []) y h

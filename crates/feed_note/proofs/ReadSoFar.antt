@@ -29,7 +29,7 @@ pub record ReadSoFar (text left : List ℕ) (notes : List Line) : Type 0 where
 pub starts : (text : List ℕ) → ReadSoFar text text []
 starts text = record { seen = []; lines_are = refl; rest_is = refl; read = tt; size = omega arith; changes = omega arith }
 
-zip_more : (xs : List (List ℕ)) (ys : List Line) (x : List ℕ) (y : Line) → AllZip IsRead xs ys → IsRead x y → AllZip IsRead (xs ++ x ∷ []) (ys ++ y ∷ [])
+pub zip_more : (xs : List (List ℕ)) (ys : List Line) (x : List ℕ) (y : Line) → AllZip IsRead xs ys → IsRead x y → AllZip IsRead (xs ++ x ∷ []) (ys ++ y ∷ [])
 zip_more [] [] x y h k = (k, tt)
 zip_more [] (b ∷ bs) x y h k = absurd h
 zip_more (a ∷ ls) [] x y h k = absurd h

@@ -3,6 +3,7 @@ use Rattle.std.proofs.Common.{◌≡◌, ℕ, ◌+◌, ◌≤◌, Bool, true, fa
 use Rattle.std.specs.Prelude.{flat_map, option_to_list, is_some, is_none, unwrap_or}
 use Rattle.std.specs.List.{list_any}
 use Rattle.std.proofs.lemmas.Bool.{le-ltb, false≢true}
+use Rattle.std.proofs.Math.Bool.{and-false}
 use Rattle.serde_json.proofs.OnLiterals.{serde_json_on_literals}
 use Rattle.feed_text.specs.Json.{Value, null_literal, true_literal, false_literal, number, string, empty_array, array, empty_object, object, kind_of, depth, items_of, print}
 use Rattle.feed_text.specs.Limits.{line_depth as most_depth, name_bytes, object_bytes, object_depth}
@@ -52,14 +53,10 @@ short_then : (name : Option (List ℕ)) (ws : List (List ℕ)) → IsToken name 
 short_then None ws h e = e
 short_then (Some w) ws h e = λ i. le-ltb name_bytes (length w) h.1 i || e i
 
-and_none : (b : Bool) → (b && false) ≡ false
-and_none true = refl
-and_none false = refl
-
 small_object : (text : List ℕ) (content : Value) → IsContent text content → is_big_object content ≡ false
 small_object text content fits =
     let size : length (print content) ≤ object_bytes = subst (λ x. length x ≤ object_bytes) fits.printed fits.size in
-    (λ i. is_object (kind_of content) && (le-ltb object_bytes (length (print content)) size i || le-ltb object_depth (depth content) fits.nesting i)) ∙ and_none (is_object (kind_of content))
+    (λ i. is_object (kind_of content) && (le-ltb object_bytes (length (print content)) size i || le-ltb object_depth (depth content) fits.nesting i)) ∙ and-false (is_object (kind_of content))
 
 module _ (says : WrittenStringSays) where
   name_told : (name : Option (List ℕ)) → member_text (Some (name_value name)) ≡ name

@@ -1,26 +1,12 @@
 -- Lemmas on the lines of a script.
-use Rattle.std.proofs.Common.{◌≡◌, refl, ap, ◌∙◌, ℕ, ◌<◌, Bool, true, false, not, List, [], ◌∷◌, ◌++◌, arith, nat_le, leb-true}
-use Rattle.feed_note.specs.Lines.{is_line_feed, lines, HasNoLineFeed}
+use Rattle.std.proofs.Common.{◌≡◌, refl, ap, ◌∙◌, ℕ, ◌<◌, Bool, true, false, List, ◌∷◌, ◌++◌, arith, nat_le, leb-true}
+use Rattle.feed_note.specs.Lines.{lines, HasNoLineFeed}
+use Rattle.feed_note.proofs.LinesCut.{one_line}
 use Rattle.feed_play.specs.Lines.{LinesLeft}
-use Rattle.std.proofs.lemmas.Bool.{not-true as negated}
-use Rattle.feed_note.proofs.LinesCut.{second_true, first_true}
-
--- a text without a line feed has no line
-pub no_line : (t : List ℕ) → HasNoLineFeed t → lines t ≡ []
-unfolding lines
-no_line [] h = refl
-no_line (b ∷ t) h =
-    rw (negated (is_line_feed b) (first_true (not (is_line_feed b)) _ h)) (rw (no_line t (second_true (not (is_line_feed b)) _ h)) refl)
-
-line_more : (l behind : List ℕ) → HasNoLineFeed l → lines (l ++ 10 ∷ behind) ≡ l ∷ lines behind
-unfolding lines
-line_more [] behind h = refl
-line_more (b ∷ l) behind h =
-    rw (negated (is_line_feed b) (first_true (not (is_line_feed b)) _ h)) (rw (line_more l behind (second_true (not (is_line_feed b)) _ h)) refl)
 
 -- a line and its line feed, and what is behind
 pub first_line : (t l behind : List ℕ) → HasNoLineFeed l → t ≡ l ++ 10 ∷ behind → lines t ≡ l ∷ lines behind
-first_line t l behind h e = ap lines e ∙ line_more l behind h
+first_line t l behind h e = ap lines e ∙ one_line l behind h
 
 pub left_is : (s : LinesLeft) (ls : List (List ℕ)) (n : ℕ) → s ≡ record { left = ls; read = n } → s.left ≡ ls
 left_is s ls n e = ap (λ t. t.left) e

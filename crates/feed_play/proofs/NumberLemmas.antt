@@ -8,14 +8,12 @@ use Rattle.std.specs.Str.Parse.{digits_value}
 use Rattle.std.proofs.lemmas.Str.Parse.{IsNumeralModel, numerals_by_value, tells_all_ascii_digits, digits_value_short, digits_value-take-le, digit_at}
 use Rattle.std.proofs.lemmas.Str.{digit_value_digit}
 use Rattle.std.proofs.lemmas.Int.Digits.{digits_value_more}
+use Rattle.std.proofs.lemmas.Bool.{and_from as both}
+use Rattle.std.proofs.Math.Bool.{and-false as and_false}
 use Rattle.feed_note.specs.Lines.{onto_first}
 use Rattle.feed_play.specs.Script.{is_space, is_script_number, script_number, numbers_in, one_of, nodes_in, words}
 use Rattle.feed_play.proofs.WordLemmas.{stays, one_word}
-use Rattle.feed_note.proofs.LinesCut.{both, second_true, first_true}
-
-and_false : (a : Bool) → (a && false) ≡ false
-and_false true = refl
-and_false false = refl
+use Rattle.feed_text.proofs.Choices.{first_true, second_true}
 
 -- ---- the value of digits
 

@@ -3,8 +3,9 @@ use Rattle.std.proofs.Common.{◌≡◌, refl, ap, ◌∙◌, subst, ℕ, ◌+�
 use Rattle.std.specs.List.{list_all, prefix_len, position, position_or_len}
 use Rattle.std.proofs.lemmas.List.Sums.{prefix_len_stops, split_at_first}
 use Rattle.feed_play.specs.Script.{is_space, words}
-use Rattle.feed_note.proofs.LinesCut.{first_true, second_true, both}
-use Rattle.std.proofs.lemmas.Bool.{not-true as negated}
+use Rattle.std.proofs.lemmas.Bool.{not-true as negated, and_from as both}
+use Rattle.feed_text.proofs.Choices.{first_true, second_true}
+use Rattle.feed_note.proofs.LineEnds.{take_one}
 
 abbrev pub stays : ℕ → Bool
 stays b = not (is_space b)
@@ -24,9 +25,6 @@ word_more (b ∷ w) behind e =
     rw (negated (is_space b) (first_true (stays b) _ e)) (rw (word_more w behind (second_true (stays b) _ e)) refl)
 
 -- ---- the first space that a search finds
-
-take_one : (n x : ℕ) (xs : List ℕ) → take (1 + n) (x ∷ xs) ≡ x ∷ take n xs
-take_one n x xs = grind arith
 
 prefix_stays : (xs : List ℕ) → list_all stays (take (position_or_len is_space xs) xs) ≡ true
 prefix_stays [] = refl

@@ -1,26 +1,17 @@
 -- What a connection carries, and what stands behind it.
 use Rattle.std.proofs.Common.{◌≡◌, refl, sym, ap, ap₂, ◌∙◌, subst, ℕ, ◌+◌, ◌<◌, Bool, true, false, true≢false, cond, ◌||◌, ◌&&◌, List, [], ◌∷◌, ◌++◌, append_assoc, append-nil, length, arith, Option, None, Some, leb-true}
+use Rattle.std.proofs.lemmas.Bool.{or_right}
 use Rattle.std.specs.Prelude.{is_some, if◌then◌else◌, ◌==◌, codes}
 use Rattle.std.specs.List.{AllByRecursion, ends_with}
 use Rattle.feed_text.specs.Limits.{line_bytes}
+use Rattle.feed_text.proofs.Choices.{neither_left, neither_right}
 use Rattle.feed_note.specs.Lines.{HasNoLineFeed, lines, rest, ended}
 use Rattle.feed_note.proofs.LinesCut.{lines_cut, no_lines, one_line, no_rest, rest_behind}
 use Rattle.feed_records.specs.Connections.{OpensNone, is_marked, is_short, token_on, status_on, since_in, status_in}
 use Rattle.feed_records.specs.Parting.{opens_connection, body_by, count_by, next_by, body_of, body_lines, behind_body, first_opens, is_at_next}
+use Rattle.feed_records.proofs.Cutting.{whole_front}
 
 -- ---- whether a connection begins on a line
-
-or_right : (a b : Bool) → b ≡ true → (a || b) ≡ true
-or_right true b e = refl
-or_right false b e = e
-
-neither_left : (a b : Bool) → (a || b) ≡ false → a ≡ false
-neither_left true b e = e
-neither_left false b e = refl
-
-neither_right : (a b : Bool) → (a || b) ≡ false → b ≡ false
-neither_right true b e = absurd (true≢false e)
-neither_right false b e = e
 
 none_by : (o : Option (List ℕ)) → is_some o ≡ false → o ≡ None
 none_by None e = refl
@@ -183,17 +174,13 @@ pub data SplitOf (text : List ℕ) : Type 0 where
   before_next : (seen : List (List ℕ)) → AllByRecursion OpensNone seen → AllByRecursion HasNoLineFeed seen → body_of text ≡ ended seen → body_lines text ≡ length seen
       → text ≡ ended seen ++ behind_body text → SplitOf text
 
-front_of : (xs ys : List (List ℕ)) → AllByRecursion HasNoLineFeed (xs ++ ys) → AllByRecursion HasNoLineFeed xs
-front_of [] ys h = tt
-front_of (x ∷ xs) ys h = (h.0, front_of xs ys h.1)
-
 pub split_of : (text : List ℕ) → SplitOf text
 split_of text = by (split_by (lines text) (rest text))
   where
     by : SplitBy (lines text) (rest text) → SplitOf text
     by (alone_by none body_is next_is count_is) = alone none (body_is ∙ sym (lines_cut text).text) next_is count_is
     by (before_by seen later none is body_is count_is text_is) =
-        before_next seen none (front_of seen later (subst (AllByRecursion HasNoLineFeed) is (lines_cut text).whole)) body_is count_is ((lines_cut text).text ∙ text_is)
+        before_next seen none (whole_front seen later (subst (AllByRecursion HasNoLineFeed) is (lines_cut text).whole)) body_is count_is ((lines_cut text).text ∙ text_is)
 
 pub whole_again : (text : List ℕ) → body_of text ++ behind_body text ≡ text
 whole_again text = by (split_of text)

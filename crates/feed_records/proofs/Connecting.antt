@@ -6,8 +6,9 @@ use Rattle.feed_records.specs.Connections.{Cut, Recorded, part, OpensFeed, Opens
 use Rattle.feed_records.specs.Parting.{body_of, body_lines, behind_body, OpensNext, EndsIn, nothing, in_head, since_of, most}
 use Rattle.feed_records.specs.declared.connections.Opened.{Opened}
 use Rattle.feed_records.proofs.Bodies.{SplitOf, alone, before_next, split_of, body_alone, body_before, ends_none, regroup, marked_opens, named_opens, answered_opens}
-use Rattle.feed_records.proofs.Cutting.{each_cuts, whole_both}
+use Rattle.feed_records.proofs.Cutting.{each_cuts}
 use Rattle.feed_records.proofs.EndedLines.{lines_of_ended}
+use Rattle.feed_text.proofs.Lists.{all-append}
 
 pub alone_feed : (before since token : Option (List ℕ)) (line : List ℕ) (feed : Bool) → feed ≡ true → since ≡ token → OpensFeed before (line ∷ []) true token → OpensFeed before (line ∷ []) feed since
 alone_feed before since token line feed e is o = subst (λ f. OpensFeed before (line ∷ []) f since) (sym e) (subst (λ t. OpensFeed before (line ∷ []) true t) (sym is) o)
@@ -53,7 +54,7 @@ goes_on text behind end old new count is g = by (split_of text)
       counted = let l = length-append seen g.head in let c = g.counted in let k = lines_are in omega (arith, l, c, k, count_is);
       on = λ before is_feed parts c.
           by_body text (ended seen) parts body_is
-          (opened seen g.head new.is_feed (since_of new) behind parts (text_is ∙ ap (λ t. ended seen ++ t) next_is) (whole_both seen g.head whole g.whole) none
+          (opened seen g.head new.is_feed (since_of new) behind parts (text_is ∙ ap (λ t. ended seen ++ t) next_is) (all-append HasNoLineFeed seen g.head whole g.whole) none
           (opens_here seen (let l = lines_are in omega (arith, l, count_is))) c);
     }
 
@@ -69,7 +70,7 @@ ends_with text end is h = by (split_of text) end.1 is h
         by_body text (ended seen) [] body_is
         (headless seen h.fields line status h.end
         (text_is ∙ ap (λ t. ended seen ++ t) (e ∙ (ap (λ t. line ++ 10 ∷ t) h.text_is ∙ regroup line h.fields h.end)))
-        (whole_both seen (line ∷ h.fields) whole (unbroken, h.whole)) h.part none unmarked unnamed has h.filled)
+        (all-append HasNoLineFeed seen (line ∷ h.fields) whole (unbroken, h.whole)) h.part none unmarked unnamed has h.filled)
 
 -- a text is cut somehow
 pub cut_somehow : (before : ℕ) (is_feed : Bool) (since : Option (List ℕ)) (text : List ℕ) → (later : List Recorded) × Cut before is_feed since text (part before is_feed since (body_of text) ∷ later)

@@ -79,10 +79,6 @@ pub whole_back : (xs ys : List (List ℕ)) → AllByRecursion HasNoLineFeed (xs 
 whole_back [] ys h = h
 whole_back (x ∷ xs) ys h = whole_back xs ys h.1
 
-pub whole_both : (xs ys : List (List ℕ)) → AllByRecursion HasNoLineFeed xs → AllByRecursion HasNoLineFeed ys → AllByRecursion HasNoLineFeed (xs ++ ys)
-whole_both [] ys h k = k
-whole_both (x ∷ xs) ys h k = (h.0, whole_both xs ys h.1 k)
-
 -- the text behind some of its lines
 abbrev behind : List ℕ → List (List ℕ) → List ℕ
 behind text later = ended later ++ rest text

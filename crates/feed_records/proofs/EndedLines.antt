@@ -24,7 +24,3 @@ pub line_more : (text left behind line : List ℕ) (seen : List (List ℕ)) → 
 line_more text left behind line seen is split =
     is ∙ ap (λ t. ended seen ++ t) split ∙ ap (λ t. ended seen ++ t) (sym (append_assoc line (10 ∷ []) behind))
     ∙ sym (append_assoc (ended seen) (line ++ 10 ∷ []) behind) ∙ ap (λ t. t ++ behind) (sym (ended_with seen line))
-
-pub all_more : {X : Type 0} (P : X → Type 0) (xs : List X) (x : X) → AllByRecursion P xs → P x → AllByRecursion P (xs ++ x ∷ [])
-all_more P [] x h k = (k, tt)
-all_more P (y ∷ ys) x h k = (h.0, all_more P ys x h.1 k)

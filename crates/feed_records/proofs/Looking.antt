@@ -1,9 +1,12 @@
 -- What is at the front of a record that is read connection by connection.
-use Rattle.std.proofs.Common.{◌≡◌, refl, sym, ap, ap₂, ◌∙◌, subst, ℕ, ◌+◌, ◌<◌, min, Bool, true, false, true≢false, cond, not, ◌||◌, ◌&&◌, List, [], ◌∷◌, ◌++◌, append_assoc, length, length-append, drop, arith, Option, None, Some, eqb-true}
+use Rattle.std.proofs.Common.{◌≡◌, refl, sym, ap, ap₂, ◌∙◌, subst, ℕ, ◌+◌, ◌<◌, min, Bool, true, false, true≢false, cond, not, ◌||◌, ◌&&◌, List, [], ◌∷◌, ◌++◌, append_assoc, length, length-append, drop, arith, Option, Some, eqb-true}
+use Rattle.std.proofs.lemmas.Bool.{not-true as negated}
 use Rattle.std.specs.Prelude.{◌==◌, option_map, slice_index_or}
 use Rattle.feed_text.specs.Limits.{line_bytes}
+use Rattle.feed_text.proofs.Choices.{first_true, second_true}
+use Rattle.feed_text.proofs.PrefixReaders.{map_some}
 use Rattle.feed_note.specs.Lines.{HasNoLineFeed, is_line_feed, onto_first, lines, rest, ended}
-use Rattle.feed_note.proofs.LinesCut.{first_true, second_true, negated, lines_cut, one_line, no_lines}
+use Rattle.feed_note.proofs.LinesCut.{lines_cut, one_line, no_lines}
 use Rattle.feed_records.specs.Connections.{is_blank_line, is_chunked}
 use Rattle.feed_records.specs.Fronts.{IsFront, IsLineAtFront, IsLineBefore}
 use Rattle.feed_records.specs.Parting.{opens_connection, body_by, body_of, body_lines, behind_body, first_opens, is_at_next, first_is_blank, is_at_blank, most}
@@ -12,11 +15,6 @@ use Rattle.feed_records.specs.declared.reading.Front.{Front}
 use Rattle.feed_records.specs.declared.reading.Front.TheVariants.{Line, Rest, Long}
 use Rattle.feed_records.proofs.Bodies.{opens_long, body_nil, body_miss, at_line, at_rest, body_at, body_behind, count_behind, next_behind, body_rest, body_next, whole_again}
 use Rattle.feed_records.proofs.Passing.{cancel}
-
--- what is known of a value is known of what it is made of
-pub known : {X Y : Type 0} (f : X → Y) (o : Option X) (y : Y) → option_map f o ≡ Some y → (x : X) × (o ≡ Some x) × (f x ≡ y)
-known f None y e = absurd (cc)
-known f (Some x) y e = (x, refl, cc)
 
 -- ---- a line that is too long
 
@@ -144,7 +142,7 @@ chunk_front Long front text h = let n = h.long in chunk_long front h.behind (ome
 -- ---- what is at the front of a connection
 
 pub look_left : (old new : Option (List ℕ)) (body : List ℕ) → option_map body_of old ≡ Some body → ((t : List ℕ) → old ≡ Some t → new ≡ Some t) → option_map body_of new ≡ Some body
-look_left old new body e k = let t = known body_of old body e in ap (option_map body_of) (k t.0 t.1) ∙ ap Some t.2
+look_left old new body e k = let t = map_some body_of old body e in ap (option_map body_of) (k t.0 t.1) ∙ ap Some t.2
 
 abbrev pub end_of : ℕ → List ℕ → ℕ × List ℕ
 end_of count text = (min (count + body_lines text) most, behind_body text)
@@ -152,21 +150,21 @@ end_of count text = (min (count + body_lines text) most, behind_body text)
 pub look_beyond : (old new : Option (List ℕ)) (count more : ℕ) (end : ℕ × List ℕ) → option_map (end_of count) old ≡ Some end → more ≡ count → ((t : List ℕ) → old ≡ Some t → new ≡ Some t)
     → option_map (end_of more) new ≡ Some end
 look_beyond old new count more end e same k =
-    let t = known (end_of count) old end e in
+    let t = map_some (end_of count) old end e in
     ap (option_map (end_of more)) (k t.0 t.1) ∙ ap Some (ap (λ n. end_of n t.0) same ∙ t.2)
 
 -- where another connection begins nothing is left of this one
 pub look_over : (old : Option (List ℕ)) (body front : List ℕ) (over : Bool) → option_map body_of old ≡ Some body → over ≡ true → ((t : List ℕ) → old ≡ Some t → over ≡ is_at_next t)
     → IsFront Rest (front_by over front) body
 look_over old body front over e is k =
-    let t = known body_of old body e in
+    let t = map_some body_of old body e in
     subst (λ o. IsFront Rest (front_by o front) body) (sym is)
     (subst (λ b. IsFront Rest [] b) (sym (body_next t.0 (sym (k t.0 t.1) ∙ is)) ∙ t.2) (record { unbroken = refl; short = omega arith; text_is = refl }))
 
 pub look_on : (old : Option (List ℕ)) (body front : List ℕ) (over : Bool) (found : Front) → option_map body_of old ≡ Some body → over ≡ false
     → ((t : List ℕ) → old ≡ Some t → over ≡ is_at_next t) → ((t : List ℕ) → old ≡ Some t → IsFront found front t) → IsFront found (front_by over front) body
 look_on old body front over found e is k h =
-    let t = known body_of old body e in
+    let t = map_some body_of old body e in
     subst (λ o. IsFront found (front_by o front) body) (sym is)
     (subst (λ b. IsFront found front b) t.2 (body_front found front t.0 (h t.0 t.1) (sym (k t.0 t.1) ∙ is)))
 
@@ -214,7 +212,7 @@ module _ (old new : Option (List ℕ)) (front behind : List ℕ) (over : Bool) (
     (f : IsLineBefore behind (front_by over front) (option_map body_of old)) where
   passed : over ≡ false → (text : List ℕ) × (old ≡ Some text) × PassedIn text behind front
   passed is =
-      let t = known body_of old (f.line ++ 10 ∷ behind) f.left_is in
+      let t = map_some body_of old (f.line ++ 10 ∷ behind) f.left_is in
       let at : IsLineBefore behind front (Some (body_of t.0)) =
       record { line = f.line; unbroken = f.unbroken; front_is = sym (front_on over front is) ∙ f.front_is; left_is = ap Some t.2 } in
       (t.0, t.1, passed_in t.0 behind front at)

@@ -1,10 +1,7 @@
 -- A line that is passed.
-use Rattle.std.proofs.Common.{◌≡◌, refl, sym, ap, ◌∙◌, ℕ, List, [], ◌∷◌, ◌++◌, length, take, drop, append_assoc, take-append-drop, Option, Some}
+use Rattle.std.proofs.Common.{◌≡◌, sym, ap, ◌∙◌, ℕ, List, [], ◌∷◌, ◌++◌, length, take, drop, append_assoc, take-append-drop, Option, Some}
+use Rattle.std.proofs.Math.Seq.{drop-append_seam as drop_seam}
 use Rattle.feed_records.specs.Fronts.{IsLeft, IsLineBefore}
-
-drop_seam : (xs ys : List ℕ) → drop (length xs) (xs ++ ys) ≡ ys
-drop_seam [] ys = refl
-drop_seam (x ∷ xs) ys = drop_seam xs ys
 
 pub cancel : (xs ys zs : List ℕ) → xs ++ ys ≡ xs ++ zs → ys ≡ zs
 cancel xs ys zs e = sym (drop_seam xs ys) ∙ ap (drop (length xs)) e ∙ drop_seam xs zs

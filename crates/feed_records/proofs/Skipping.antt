@@ -1,7 +1,7 @@
 -- Lines that are passed in parts, and what connections carry between them.
-use Rattle.std.proofs.Common.{◌≡◌, refl, sym, ap, ap₂, ◌∙◌, subst, ℕ, ◌+◌, ◌<◌, min, Bool, true, false, not, List, [], ◌∷◌, ◌++◌, append_assoc, length, length-append, arith, Option, Some}
-use Rattle.feed_note.specs.Lines.{HasNoLineFeed, is_line_feed, lines}
-use Rattle.feed_note.proofs.LinesCut.{both, first_true, second_true}
+use Rattle.std.proofs.Common.{◌≡◌, refl, sym, ap, ap₂, ◌∙◌, subst, ℕ, ◌+◌, ◌<◌, min, Bool, true, false, List, [], ◌∷◌, ◌++◌, append_assoc, length, length-append, arith, Option, Some}
+use Rattle.feed_note.specs.Lines.{HasNoLineFeed, lines}
+use Rattle.feed_note.proofs.LineEnds.{unbroken_both}
 use Rattle.std.specs.Prelude.{◌==◌, option_map}
 use Rattle.feed_records.specs.Connections.{IsFilled, OpensFeed, announced_by, answered, is_blank_line, is_success}
 use Rattle.feed_records.specs.Fronts.{IsFront, IsLeft, IsLineAtFront, IsLineBefore, IsRestAtFront, IsLongAtFront}
@@ -9,18 +9,16 @@ use Rattle.feed_records.specs.Parting.{PassesLine, PassesBody, PassesHead, Passe
 use Rattle.feed_records.specs.declared.connections.Opened.{Opened}
 use Rattle.feed_records.specs.declared.reading.Front.{Front}
 use Rattle.feed_records.proofs.Bodies.{at_line, count_behind, next_behind, next_rest, count_next, next_next, regroup}
-use Rattle.feed_records.proofs.Looking.{known, end_of, next_is_line, line_at, blank_line, not_so_many}
-use Rattle.feed_records.proofs.EndedLines.{all_more, line_more}
+use Rattle.feed_records.proofs.Looking.{end_of, next_is_line, line_at, blank_line, not_so_many}
+use Rattle.feed_records.proofs.EndedLines.{line_more}
+use Rattle.feed_text.proofs.Lists.{each-append}
+use Rattle.feed_text.proofs.PrefixReaders.{map_some}
 
 -- the first bytes of a text were passed, which are no line yet
 pub record Skips (text behind : List ℕ) : Type 0 where
   pub seen : List ℕ
   pub unbroken : HasNoLineFeed seen
   pub text_is : text ≡ seen ++ behind
-
-pub unbroken_both : (xs ys : List ℕ) → HasNoLineFeed xs → HasNoLineFeed ys → HasNoLineFeed (xs ++ ys)
-unbroken_both [] ys h k = k
-unbroken_both (x ∷ xs) ys h k = both (not (is_line_feed x)) _ (first_true (not (is_line_feed x)) _ h) (unbroken_both xs ys (second_true (not (is_line_feed x)) _ h) k)
 
 pub skips_none : (text : List ℕ) → Skips text text
 skips_none text = record { seen = []; unbroken = refl; text_is = refl }
@@ -58,7 +56,7 @@ skips_rest text old front h f =
 module _ (old mid : Option (List ℕ)) (count : ℕ) (end : ℕ × List ℕ) (is : option_map (end_of count) old ≡ Some end) (over : Bool)
     (k : (t : List ℕ) → old ≡ Some t → mid ≡ Some t) (at : (t : List ℕ) → old ≡ Some t → over ≡ is_at_next t) where
   text : (t : List ℕ) × (old ≡ Some t) × (end_of count t ≡ end)
-  text = known (end_of count) old end is
+  text = map_some (end_of count) old end is
 
   -- another one begins
   pub body_found : (front : List ℕ) (found : Front) (more : ℕ) → more ≡ count → over ≡ true → ((t : List ℕ) → old ≡ Some t → IsFront found front t) → PassesBody true end mid front more
@@ -109,9 +107,9 @@ module _ (text : List ℕ) (old mid new : Option (List ℕ)) (start count more :
       s.1,
       record {
         fields = h.2.fields ++ s.2.0 ∷ [];
-        whole = all_more HasNoLineFeed h.2.fields s.2.0 h.2.whole s.2.1;
+        whole = each-append HasNoLineFeed h.2.fields s.2.0 h.2.whole s.2.1;
         text_is = line_more text h.0 s.0 s.2.0 h.2.fields h.2.text_is s.2.2;
-        filled = all_more IsFilled h.2.fields s.2.0 h.2.filled (sym blank_is ∙ e);
+        filled = each-append IsFilled h.2.fields s.2.0 h.2.filled (sym blank_is ∙ e);
         counted = let n = length-append h.2.fields (s.2.0 ∷ []) in let c = h.2.counted in omega (arith, n, c, more_is);
       },
     )
@@ -123,7 +121,7 @@ module _ (text : List ℕ) (old mid new : Option (List ℕ)) (start count more :
       record {
         fields = h.2.fields;
         blank = s.2.0;
-        whole = all_more HasNoLineFeed h.2.fields s.2.0 h.2.whole s.2.1;
+        whole = each-append HasNoLineFeed h.2.fields s.2.0 h.2.whole s.2.1;
         text_is = line_more text h.0 s.0 s.2.0 h.2.fields h.2.text_is s.2.2;
         filled = h.2.filled;
         ends = sym blank_is ∙ e;

@@ -1,22 +1,15 @@
 -- Each text that screens have yet to take has as many readers as there are places where one has it.
-use Rattle.std.proofs.Common.{◌≡◌, ◌≢◌, refl, sym, ap, ◌∙◌, subst, ℕ, zero, suc, ◌+◌, ◌<◌, ◌≤◌, ◌-◌, ◌^◌, ◌*◌, ◌⊎◌, inl, inr, min, arith, Bool, true, false, cond, List, [], ◌∷◌, ◌++◌, length, Option, Some, None}
-use Rattle.std.specs.Prelude.{◌==◌, if◌then◌else◌, slice_index_or, slice_set, remove}
-use Rattle.std.proofs.lemmas.Bool.Decides.{eqb_tells}
+use Rattle.std.proofs.Common.{◌≡◌, ◌≢◌, refl, sym, ap, ◌∙◌, subst, ℕ, zero, suc, ◌+◌, ◌<◌, ◌≤◌, ◌-◌, ◌^◌, ◌*◌, inl, inr, min, arith, Bool, true, false, cond, List, [], ◌∷◌, ◌++◌, length, Option, Some, None}
+use Rattle.std.specs.Prelude.{if◌then◌else◌, slice_index_or, slice_set, remove}
 use Rattle.std.proofs.lemmas.List.{get_or_default}
 use Rattle.std.proofs.lemmas.List.Sums.{sum_by-set, sum_by-remove, sum_by_push, sum_by-le, count_by-le-length, get_or-le-sum_by}
+use Rattle.std.proofs.lemmas.Bool.{eqb-true as number_is, eq-eqb}
 use Rattle.feed_screens.specs.declared.screens.pending.Text.{Text}
 use Rattle.feed_screens.specs.declared.screens.pending.TextId.{TextId}
 use Rattle.feed_screens.specs.declared.screens.pending.TextId.TheVariants.{Opening, Own, Commit}
 use Rattle.feed_screens.specs.Pending.{total, is_same_text, is_taker, takers, readers, owed_text_at, text_with_readers, IsTextAt, HasNone, Adds, Removes, HaveReaders, AreCounted}
 
 -- ---- ids
-
-number_is : (a b : ℕ) → (a == b) ≡ true → a ≡ b
-number_is a b same = by (eqb_tells a b)
-  where
-    by : (((a == b) ≡ true) × (a ≡ b)) ⊎ (((a == b) ≡ false) × (a ≢ b)) → a ≡ b
-    by (inl (_, is)) = is
-    by (inr (differs, _)) = let wrong : false ≡ true = sym differs ∙ same in absurd (cc)
 
 pub same_is : (a b : TextId) → is_same_text a b ≡ true → a ≡ b
 unfolding is_same_text
@@ -30,18 +23,11 @@ same_is (Own a) (Commit b) same = absurd (cc)
 same_is (Commit a) (Opening b) same = absurd (cc)
 same_is (Commit a) (Own b) same = absurd (cc)
 
-number_is_itself : (a : ℕ) → (a == a) ≡ true
-number_is_itself a = by (eqb_tells a a)
-  where
-    by : (((a == a) ≡ true) × (a ≡ a)) ⊎ (((a == a) ≡ false) × (a ≢ a)) → (a == a) ≡ true
-    by (inl (same, _)) = same
-    by (inr (_, differs)) = absurd (differs refl)
-
 pub is_itself : (a : TextId) → is_same_text a a ≡ true
 unfolding is_same_text
-is_itself (Opening a) = number_is_itself a
-is_itself (Own a) = number_is_itself a
-is_itself (Commit a) = number_is_itself a
+is_itself (Opening a) = eq-eqb a a refl
+is_itself (Own a) = eq-eqb a a refl
+is_itself (Commit a) = eq-eqb a a refl
 
 -- ---- sums
 

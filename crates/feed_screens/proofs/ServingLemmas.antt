@@ -19,6 +19,7 @@ use Rattle.feed_hub.specs.Hub.{IsSeated, IsStillSeated, ChangesOnly, prefix_of, 
 use Rattle.feed_hub.specs.Backlog.{Backlog}
 use Rattle.feed_hub.specs.Seats.{seat_at, Watched, KeepsThose, EndsSeat, IsCut, IsAskingSeat}
 use Rattle.feed_hub.specs.Steps.{taken}
+use Rattle.feed_hub.proofs.HubLemmas.{key_tells}
 use Rattle.feed_screens.specs.declared.conn.Conn.{Conn}
 use Rattle.feed_screens.specs.declared.screens.Screens.{Screens}
 use Rattle.feed_screens.specs.declared.screens.Hearing.{Hearing}
@@ -34,14 +35,6 @@ number_tells a b = by (eqb_tells a b)
     by : (((a == b) ≡ true) × (a ≡ b)) ⊎ (((a == b) ≡ false) × (a ≢ b)) → (a ≡ b) ⊎ (a ≢ b)
     by (inl (_, same)) = inl same
     by (inr (_, differ)) = inr differ
-
-pub key_tells : (a b : Key) → (a ≡ b) ⊎ (a ≢ b)
-key_tells a b = by (number_tells a.index b.index) (number_tells a.generation b.generation)
-  where
-    by : (a.index ≡ b.index) ⊎ (a.index ≢ b.index) → (a.generation ≡ b.generation) ⊎ (a.generation ≢ b.generation) → (a ≡ b) ⊎ (a ≢ b)
-    by (inr differ) _ = inr (λ e. differ (ap (λ k. k.index) e))
-    by (inl _) (inr differ) = inr (λ e. differ (ap (λ k. k.generation) e))
-    by (inl i) (inl g) = inl (ap (λ x. record { index = x; generation = a.generation }) i ∙ ap (λ x. record { index = b.index; generation = x }) g)
 
 -- ---- one socket
 

@@ -169,7 +169,7 @@ over_nothing_less {V} {W} gone items m g i =
     (no_entries (entries gone) (sym (len-entries gone) ∙ g)))
 
 -- ---- what changes put in
-bytes-append : (a b : List Change) → changes_bytes (a ++ b) ≡ changes_bytes a + changes_bytes b
+pub bytes-append : (a b : List Change) → changes_bytes (a ++ b) ≡ changes_bytes a + changes_bytes b
 bytes-append [] b = omega arith
 bytes-append (c ∷ a) b = omega (arith, bytes-append a b)
 

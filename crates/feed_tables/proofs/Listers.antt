@@ -1,5 +1,5 @@
 -- Changes that are given to a lister one after the other.
-use Rattle.std.proofs.Common.{Result, Ok, Err, OnErr, ◌≡◌, ℕ, refl, sym, ap, ◌∙◌, subst, List, [], ◌∷◌, ◌++◌, append_assoc, fold, flat_map}
+use Rattle.std.proofs.Common.{Result, Ok, Err, OnErr, IfOk, ◌≡◌, ℕ, refl, sym, ap, ◌∙◌, subst, List, [], ◌∷◌, ◌++◌, append_assoc, fold, flat_map}
 use Rattle.std.proofs.lemmas.Grind.{flat_map-append}
 use Rattle.std.specs.List.{FoldsTo}
 use Rattle.std.specs.declared.alloc.Global.{Global}
@@ -19,6 +19,11 @@ use Rattle.feed_tables.specs.Tree.{entries_of}
 pub on_any_err : {A E : Type 0} (r : Result A E) (P : Type 0) → P → OnErr r P
 on_any_err (Ok a) P p = tt
 on_any_err (Err e) P p = p
+
+-- what holds of a value gives what follows from it
+pub ok_becomes : {A E : Type 0} (P Q : A → Type 0) (r : Result A E) → ((a : A) → P a → Q a) → IfOk r P → IfOk r Q
+ok_becomes P Q (Ok a) follows holds = follows a holds
+ok_becomes P Q (Err e) follows holds = tt
 
 module _ {L : Type 0} (takes fails : L → Change → L → Type 0) where
   -- changes that are taken, and then others

@@ -1,7 +1,7 @@
 -- What stands behind a backslash is read as `decoded` has it.
 use Rattle.std.proofs.Common.{◌≡◌, ◌≢◌, ℕ, ◌-◌, ◌<◌, ◌≤◌, Bool, true, false, cond, ◌&&◌, ◌==◌, nat_lt, List, [], ◌∷◌, ◌++◌, length, take, drop, Option, Some, None, inl, inr, refl, sym, ap, subst, ◌∙◌, arith, append_assoc, append-nil, leb, length-drop}
 use Rattle.std.specs.Prelude.{option_map, option_and_then, not}
-use Rattle.std.proofs.lemmas.Bool.{and_right, false≢true, eqb-true, and_parts, and_cases, le-ltb, lt-ltb, leb-true, leb-false, ne_eqb, not-false}
+use Rattle.std.proofs.lemmas.Bool.{and_right, false≢true, eqb-true, and_parts, and_cases, lt-ltb, leb-false, ne_eqb, not-false, and_parts as both_true}
 use Rattle.std.proofs.lemmas.Option.{cond_some, none-some, same_Some}
 use Rattle.std.proofs.lemmas.Str.{encode_ascii}
 use Rattle.std.specs.Char.{is_digit, encode_utf8}
@@ -15,9 +15,9 @@ use Rattle.feed_text.specs.Reading.{first, is_unescaped, prefix_while, rest_whil
 use Rattle.feed_text.specs.Escapes.{Read, unit_at, pair_of, low_half_at, character_of, escaped_at, ClosesBefore}
 use Rattle.feed_text.proofs.Lines.{no_length}
 use Rattle.feed_text.proofs.Parts.{with_first}
-use Rattle.feed_text.proofs.Plain.{content_is_prefix}
+use Rattle.feed_text.proofs.Plain.{content_is_prefix, printable}
 use Rattle.feed_text.proofs.PrefixReaders.{chosen, and_then_some, map_some}
-use Rattle.feed_text.proofs.Strings.{both_true, unescaped_is}
+use Rattle.feed_text.proofs.Strings.{unescaped_is}
 
 prepend-prepend : (a b : List ℕ) (r : Option (List ℕ)) → prepend a (prepend b r) ≡ prepend (a ++ b) r
 prepend-prepend a b None = refl
@@ -212,9 +212,6 @@ escape_follows (x ∷ xs) r e =
     ]
 
 -- ---- bytes that stand for themselves
-
-printable : (b : ℕ) → is_unescaped b ≡ true → nat_lt b 32 ≡ false
-printable b h = le-ltb b 32 (leb-true 32 b (both_true _ _ h).0)
 
 content_byte : (b : ℕ) (text : List ℕ) → is_unescaped b ≡ true → content plain (b ∷ text) ≡ prepend (b ∷ []) (content plain text)
 unfolding content

@@ -3,6 +3,7 @@
 use Rattle.std.proofs.Common.{◌≡◌, ◌≢◌, ℕ, Bool, true, false, cond, List, [], ◌∷◌, ◌++◌, length, take, drop, Option, Some, None, refl, sym, ap, subst, ◌∙◌, ◌-◌, ◌<◌, ◌≤◌, arith, eqb-true, eq-eqb, append_assoc}
 use Rattle.std.proofs.lemmas.List.{take-append-drop, reverse-append}
 use Rattle.std.proofs.lemmas.Option.{cond_some}
+use Rattle.std.proofs.lemmas.Bool.{and_parts as both_true}
 use Rattle.std.specs.Prelude.{nat_eq, codes, option_map, map, find, ◌==◌, IsTrue}
 use Rattle.std.specs.Str.{bytes_eq}
 use Rattle.std.specs.List.{list_all}
@@ -28,7 +29,7 @@ use Rattle.feed_text.proofs.Plain.{plain_tail, quotes_says}
 use Rattle.feed_text.proofs.PrefixReaders.{while_parts, while_passes, while_rest, map_some}
 use Rattle.feed_text.proofs.Rests.{string_rest, value_string}
 use Rattle.feed_text.proofs.Scalars.{same_bytes}
-use Rattle.feed_text.proofs.Strings.{run_reads, at_quote, both_true}
+use Rattle.feed_text.proofs.Strings.{run_reads, at_quote}
 use Rattle.feed_text.proofs.TreeScalars.{all_bytes, bytes_all}
 
 -- a text that begins with another

@@ -9,6 +9,9 @@ module _ {A : Type 0} (P : A → Type 0) where
   all-append [] ys h k = k
   all-append (x ∷ xs) ys h k = (h.0, all-append xs ys h.1 k)
 
+  pub each-append : (xs : List A) (y : A) → AllByRecursion P xs → P y → AllByRecursion P (xs ++ y ∷ [])
+  each-append xs y h k = all-append xs (y ∷ []) h (k, tt)
+
   pub all-reverse : (xs : List A) → AllByRecursion P xs → AllByRecursion P (reverse xs)
   all-reverse [] h = tt
   all-reverse (x ∷ xs) h = subst (AllByRecursion P) (sym (reverse-append (x ∷ []) xs)) (all-append (reverse xs) (x ∷ []) (all-reverse xs h.1) (h.0, tt))

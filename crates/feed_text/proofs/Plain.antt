@@ -6,7 +6,7 @@ use Rattle.std.specs.Prelude.{◌&&◌, ◌==◌, not, nat_lt, nat_eq, bytes_eq,
 use Rattle.std.specs.List.{list_all, flat_map}
 use Rattle.std.specs.Cmp.Lexicographic.{pointwise}
 use Rattle.std.specs.Option.{option_eq}
-use Rattle.std.proofs.lemmas.Bool.{false≢true, leb-true, leb-false, lt-ltb, ne_eqb, le-ltb, and_cases, not-false, cond_both}
+use Rattle.std.proofs.lemmas.Bool.{false≢true, leb-true, leb-false, lt-ltb, ne_eqb, le-ltb, and_cases, not-false, cond_both, and_from as both, and_parts as both_true}
 use Rattle.std.proofs.lemmas.Option.{cond_some, none-some}
 use Rattle.feed_text.specs.Ascii.{quotation_mark, backslash}
 use Rattle.feed_text.specs.Reading.{is_unescaped, first, prefix_while, rest_while, plain_content}
@@ -17,15 +17,15 @@ use Rattle.feed_text.proofs.Lines.{no_length}
 use Rattle.feed_text.proofs.Parts.{with_first}
 use Rattle.feed_text.proofs.Scalars.{same_bytes}
 use Rattle.feed_text.specs.Strings.{Says, says, short_escape, long_escape, escape_or, written_byte, written_string, IsPlain}
-use Rattle.feed_text.proofs.Strings.{both_true, unescaped_is}
-use Rattle.feed_text.proofs.TreeScalars.{both, unescaped_test, all_bytes, bytes_all}
+use Rattle.feed_text.proofs.Strings.{unescaped_is}
+use Rattle.feed_text.proofs.TreeScalars.{unescaped_test, all_bytes, bytes_all}
 use Rattle.feed_text.proofs.Utf8.{utf8_behind, utf8_before}
 use Rattle.feed_text.proofs.WrittenStrings.{written_string_says, written_is_quoted, written_says}
 
 below_space : (b c : ℕ) → is_unescaped b ≡ true → c < 32 → (b == c) ≡ false
 below_space b c h lt = ne_eqb b c (λ e. absurd (omega (arith, leb-true 32 b (both_true (leb 32 b) _ h).0)))
 
-printable : (b : ℕ) → is_unescaped b ≡ true → nat_lt b 32 ≡ false
+pub printable : (b : ℕ) → is_unescaped b ≡ true → nat_lt b 32 ≡ false
 printable b h = le-ltb b 32 (leb-true 32 b (both_true (leb 32 b) _ h).0)
 
 same_byte : (b : ℕ) → is_unescaped b ≡ true → written_byte b ≡ b ∷ []

@@ -5,7 +5,7 @@ use Rattle.std.specs.List.{flat_map, AllByRecursion}
 use Rattle.std.specs.Char.{is_ascii_hexdigit, digit_value}
 use Rattle.std.specs.Str.Parse.{digits_value, AllDigits}
 use Rattle.std.proofs.Math.Nat.{pow-le-pow_right}
-use Rattle.std.proofs.lemmas.Bool.{cases_Bool}
+use Rattle.std.proofs.lemmas.Bool.{cases_Bool, eqb-true as equal, ltb-true as below, eqb-false as unequal}
 use Rattle.std.proofs.lemmas.Bool.Decides.{nat_tests}
 use Rattle.std.proofs.lemmas.Int.Digits.{digits_value_push}
 use Rattle.std.proofs.lemmas.List.Elements.{All-nil, All-cons, All-push, recursion_from_All, All-from_recursion}
@@ -114,15 +114,6 @@ none_some t e = cc
 
 pub some_some : (s t : Chunking) → ◌≡◌ {A = Option Chunking} (Some s) (Some t) → s ≡ t
 some_some s t e = cc
-
-pub equal : (a b : ℕ) → (a == b) ≡ true → a ≡ b
-equal a b h = grind (arith, nat_tests)
-
-pub unequal : (a b : ℕ) → (a == b) ≡ false → a ≢ b
-unequal a b h = grind (arith, nat_tests)
-
-pub below : (a b : ℕ) → nat_lt a b ≡ true → a < b
-below a b h = grind (arith, nat_tests)
 
 is_text_byte : (b : ℕ) → (b == 13) ≡ false → (b == 10) ≡ false → is_extension_byte b ≡ true
 is_text_byte b h k = rw h (rw k refl)

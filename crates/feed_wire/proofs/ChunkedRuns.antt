@@ -6,7 +6,7 @@ use Rattle.std.specs.Char.{is_ascii_hexdigit, digit_value}
 use Rattle.std.specs.Str.Parse.{digits_value, digits_value_after}
 use Rattle.std.proofs.Math.Nat.{pow-succ'}
 use Rattle.std.proofs.lemmas.Bool.Decides.{nat_tests}
-use Rattle.std.proofs.lemmas.Bool.{cases_lt, cases_Bool}
+use Rattle.std.proofs.lemmas.Bool.{cases_lt, cases_Bool, ltb-true as below, eqb-false as unequal}
 use Rattle.std.proofs.lemmas.Option.{option_and_then_some}
 use Rattle.std.specs.Option.{option_and_then}
 use Rattle.std.proofs.lemmas.List.Elements.{recursion_from_All, All-from_recursion, All-push}
@@ -17,7 +17,7 @@ use Rattle.feed_wire.specs.declared.chunk.Chunking.{Chunking}
 use Rattle.feed_wire.specs.declared.chunk.Chunking.TheVariants.{LineStart, InDigits, InPad, InExtension, LineCr, InBytes, BytesEnd, BytesCr, TrailerStart, InTrailer, TrailerCr, EndCr, Whole}
 use Rattle.feed_wire.specs.ChunkedBody.{Chunk, IsChunk, IsSizeLine, size_line, print_chunk, carried, IsLastLine, IsTrailer, AreTrailers, IsChunkedBody, IsChunkedPrefix, BreaksOff, IsBreak, IsInChunk, IsInTrailers, print_trailers}
 use Rattle.feed_wire.specs.ChunkReading.{next, after_size, in_trailer, after_line, brought_by, ReadsChunks, stays, goes, IsChunkPlace}
-use Rattle.feed_wire.proofs.ChunkReading.{StandsIn, step, IsBringing, IsTrailing, if_either, none_some, some_some, brought_chunk, brought_is, brought_spelled, onto, as_lf, padded, are_push, line_of_padded, line_of_extended, below, unequal, positive, digit_small, length_push_trailer}
+use Rattle.feed_wire.proofs.ChunkReading.{StandsIn, step, IsBringing, IsTrailing, if_either, none_some, some_some, brought_chunk, brought_is, brought_spelled, onto, as_lf, padded, are_push, line_of_padded, line_of_extended, positive, digit_small, length_push_trailer}
 
 -- ---- sound: what was read is the prefix of a body
 

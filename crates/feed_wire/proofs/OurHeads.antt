@@ -4,7 +4,7 @@ use Rattle.std.specs.Prelude.{Some, nat_le, nat_lt}
 use Rattle.std.specs.List.{list_all}
 use Rattle.std.specs.Char.{is_ascii_digit}
 use Rattle.std.specs.Fmt.{digits}
-use Rattle.std.proofs.lemmas.Bool.{and_parts}
+use Rattle.std.proofs.lemmas.Bool.{and_parts, eqb-true as same_number, ltb-true as below}
 use Rattle.std.proofs.lemmas.Bool.Decides.{nat_tests}
 use Rattle.std.proofs.lemmas.List.Sums.{AllPass-from_list_all}
 use Rattle.std.proofs.lemmas.List.Elements.{All-weaker}
@@ -63,12 +63,6 @@ passes_parts code phrase fields =
 abbrev passes_size : List ℕ → List Field → Bool
 passes_size text fields =
     nat_le (length text) 8192 && (nat_lt (line_count text) 66 && nat_le (length fields) 64)
-
-pub below : (n m : ℕ) → nat_lt n m ≡ true → n < m
-below n m h = grind (arith, nat_tests)
-
-same_number : (n m : ℕ) → (n == m) ≡ true → n ≡ m
-same_number n m h = grind (arith, nat_tests)
 
 are_fields : (fields : List Field) → list_all passes_field fields ≡ true → All IsField fields
 are_fields fields h =

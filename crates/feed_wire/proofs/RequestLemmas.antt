@@ -4,10 +4,10 @@ use Rattle.std.specs.Prelude.{if◌then◌else◌, Option, Some, None, IfSome, o
 use Rattle.std.specs.List.{list_all, prefix_len}
 use Rattle.std.specs.Str.Lossy.{utf8_lossy}
 use Rattle.std.proofs.Math.Seq.{take-append_seam, take-length, drop-append-add}
-use Rattle.std.proofs.lemmas.Bool.{and_parts, cases_lt, cond_both, eq-eqb}
+use Rattle.std.proofs.lemmas.Bool.{cases_lt, cond_both, eq-eqb, and_from as both, ltb-true as under_ascii}
 use Rattle.std.proofs.lemmas.Bool.Decides.{nat_tests}
 use Rattle.std.proofs.lemmas.List.Folds.{list_all-append}
-use Rattle.std.proofs.lemmas.List.Sums.{AllPass-from_list_all, list_all-from_AllPass, sum_by-append}
+use Rattle.std.proofs.lemmas.List.Sums.{AllPass-from_list_all, list_all-from_AllPass}
 use Rattle.std.proofs.lemmas.List.Elements.{All-weaker, All-nil, All-cons, All-append}
 use Rattle.std.proofs.lemmas.Slice.Eq.{bytes_eq-Decides}
 use Rattle.std.proofs.Math.Utf8.{scalar, scalars, scalar_cases, encode, encodes}
@@ -29,18 +29,10 @@ use Rattle.feed_wire.specs.HeadSizes.{IsHeadSize, line_count}
 use Rattle.feed_wire.specs.RequestText.{head_text, feed_path, since_query, request_text}
 use Rattle.feed_wire.specs.Asked.{Requests, form_text, parameter, since_token}
 use Rattle.feed_wire.specs.RequestLaws.{RequestIsRead}
+use Rattle.feed_wire.proofs.ResponseLemmas.{line_count-append}
+use Rattle.feed_text.proofs.Choices.{first_true, second_true}
 
 -- ---- two tests
-
-both : (a b : Bool) → a ≡ true → b ≡ true → (a && b) ≡ true
-both true b p q = q
-both false b p q = p
-
-both_left : (a b : Bool) → (a && b) ≡ true → a ≡ true
-both_left a b h = (and_parts a b h).0
-
-both_right : (a b : Bool) → (a && b) ≡ true → b ≡ true
-both_right a b h = (and_parts a b h).1
 
 -- ---- tests of bytes
 
@@ -52,9 +44,9 @@ all_below test (suc n) = test n && all_below test n
 below : (test : ℕ → Bool) (n : ℕ) → all_below test n ≡ true → (b : ℕ) → b < n → test b ≡ true
 below test zero h b less = absurd (omega arith)
 below test (suc n) h b less = elim (cases_lt b n) [
-  | inl under ↦ below test n (both_right (test n) (all_below test n) h) b under
+  | inl under ↦ below test n (second_true (test n) (all_below test n) h) b under
   | inr over ↦ let same : n ≡ b = omega arith in subst (λ k. test k ≡ true) same
-      (both_left (test n) (all_below test n) h)
+      (first_true (test n) (all_below test n) h)
 ]
 
 -- where one test passes, another one does
@@ -161,9 +153,6 @@ scalar_small : (c : ℕ) → (c < 55296) ⊎ ((57344 ≤ c) × (c < 1114112)) �
 scalar_small c (inl low) = omega arith
 scalar_small c (inr high) = high.1
 
-under_ascii : (c n : ℕ) → nat_lt c n ≡ true → c < n
-under_ascii c n h = grind (arith, nat_tests)
-
 encode_bytes : (c : ℕ) → scalar c ≡ true → All Small (encode c)
 unfolding encode
 encode_bytes c h =
@@ -181,8 +170,8 @@ encode_bytes c h =
 encodes_bytes : (cs : List ℕ) → scalars cs ≡ true → All Small (encodes cs)
 encodes_bytes [] h = All-nil Small
 encodes_bytes (c ∷ cs) h =
-    All-append Small (encode c) (encodes cs) (encode_bytes c (both_left (scalar c) (scalars cs) h))
-    (encodes_bytes cs (both_right (scalar c) (scalars cs) h))
+    All-append Small (encode c) (encodes cs) (encode_bytes c (first_true (scalar c) (scalars cs) h))
+    (encodes_bytes cs (second_true (scalar c) (scalars cs) h))
 
 utf8_bytes : (text : List ℕ) → IsUtf8 text → All Small text
 utf8_bytes text (cs, (are, spell)) = subst (All Small) spell (encodes_bytes cs are)
@@ -282,15 +271,15 @@ prefix_past : (p : ℕ → Bool) (xs ys : List ℕ) → list_all p xs ≡ true
     → prefix_len p (xs ++ ys) ≡ length xs + prefix_len p ys
 prefix_past p [] ys h = omega arith
 prefix_past p (x ∷ xs) ys h =
-    let passed : p x ≡ true = both_left (p x) (list_all p xs) h in
-    let more = prefix_past p xs ys (both_right (p x) (list_all p xs) h) in
+    let passed : p x ≡ true = first_true (p x) (list_all p xs) h in
+    let more = prefix_past p xs ys (second_true (p x) (list_all p xs) h) in
     ap (λ b. cond b (1 + prefix_len p (xs ++ ys)) 0) passed ∙ omega (arith, more)
 
 prefix_whole : (p : ℕ → Bool) (xs : List ℕ) → list_all p xs ≡ true → prefix_len p xs ≡ length xs
 prefix_whole p [] h = refl
 prefix_whole p (x ∷ xs) h =
-    let passed : p x ≡ true = both_left (p x) (list_all p xs) h in
-    let more = prefix_whole p xs (both_right (p x) (list_all p xs) h) in
+    let passed : p x ≡ true = first_true (p x) (list_all p xs) h in
+    let more = prefix_whole p xs (second_true (p x) (list_all p xs) h) in
     ap (λ b. cond b (1 + prefix_len p xs) 0) passed ∙ omega (arith, more)
 
 -- ---- sizes
@@ -313,18 +302,15 @@ serialized_short (b ∷ bs) = rw byte_serialize-cons
       serialized_short bs,
     ))
 
-lines_joined : (xs ys : List ℕ) → line_count (xs ++ ys) ≡ line_count xs + line_count ys
-lines_joined xs ys = sum_by-append (λ x. cond (x == 10) 1 0) xs ys
-
 no_lines : (xs : List ℕ) → list_all (λ b. not (b == 10)) xs ≡ true → line_count xs ≡ 0
 no_lines [] h = refl
 no_lines (x ∷ xs) h =
-    let other : not (x == 10) ≡ true = both_left (not (x == 10)) (list_all (λ b. not (b == 10)) xs)
+    let other : not (x == 10) ≡ true = first_true (not (x == 10)) (list_all (λ b. not (b == 10)) xs)
     h in
     let no : (x == 10) ≡ false = grind (arith, nat_tests) in
     let one : line_count (x ∷ []) ≡ 0 = ap (λ b. 0 + cond b 1 0) no in
-    let more = no_lines xs (both_right (not (x == 10)) (list_all (λ b. not (b == 10)) xs) h) in
-    omega (arith, lines_joined (x ∷ []) xs, one, more)
+    let more = no_lines xs (second_true (not (x == 10)) (list_all (λ b. not (b == 10)) xs) h) in
+    omega (arith, line_count-append (x ∷ []) xs, one, more)
 
 -- ---- the text of a request
 
@@ -418,10 +404,10 @@ sent_lines target host t h =
     let end : line_count behind_host ≡ 4 = refl in
     omega (
       arith,
-      lines_joined (codes "GET ") (target ++ (behind_target ++ (host ++ behind_host))),
-      lines_joined target (behind_target ++ (host ++ behind_host)),
-      lines_joined behind_target (host ++ behind_host),
-      lines_joined host behind_host,
+      line_count-append (codes "GET ") (target ++ (behind_target ++ (host ++ behind_host))),
+      line_count-append target (behind_target ++ (host ++ behind_host)),
+      line_count-append behind_target (host ++ behind_host),
+      line_count-append host behind_host,
     )
 
 -- ---- the target
@@ -579,23 +565,23 @@ not_zero n h = grind (arith, nat_tests)
 -- ---- a head
 
 target_uri : (b : ℕ) → target_byte b ≡ true → is_uri_byte b ≡ true
-target_uri b h = both_left (is_uri_byte b) (nat_lt b 128)
-    (both_left (is_uri_byte b && nat_lt b 128) (not (b == 35))
-    (both_left (is_uri_byte b && nat_lt b 128 && not (b == 35)) (not (b == 10)) h))
+target_uri b h = first_true (is_uri_byte b) (nat_lt b 128)
+    (first_true (is_uri_byte b && nat_lt b 128) (not (b == 35))
+    (first_true (is_uri_byte b && nat_lt b 128 && not (b == 35)) (not (b == 10)) h))
 
 target_ascii : (b : ℕ) → target_byte b ≡ true → b < 128
 target_ascii b h =
-    let test = both_right (is_uri_byte b) (nat_lt b 128)
-    (both_left (is_uri_byte b && nat_lt b 128) (not (b == 35))
-    (both_left (is_uri_byte b && nat_lt b 128 && not (b == 35)) (not (b == 10)) h)) in
+    let test = second_true (is_uri_byte b) (nat_lt b 128)
+    (first_true (is_uri_byte b && nat_lt b 128) (not (b == 35))
+    (first_true (is_uri_byte b && nat_lt b 128 && not (b == 35)) (not (b == 10)) h)) in
     under_ascii b 128 test
 
 target_no_hash : (b : ℕ) → target_byte b ≡ true → not (b == 35) ≡ true
-target_no_hash b h = both_right (is_uri_byte b && nat_lt b 128) (not (b == 35))
-    (both_left (is_uri_byte b && nat_lt b 128 && not (b == 35)) (not (b == 10)) h)
+target_no_hash b h = second_true (is_uri_byte b && nat_lt b 128) (not (b == 35))
+    (first_true (is_uri_byte b && nat_lt b 128 && not (b == 35)) (not (b == 10)) h)
 
 target_no_line : (b : ℕ) → target_byte b ≡ true → not (b == 10) ≡ true
-target_no_line b h = both_right (is_uri_byte b && nat_lt b 128 && not (b == 35)) (not (b == 10)) h
+target_no_line b h = second_true (is_uri_byte b && nat_lt b 128 && not (b == 35)) (not (b == 10)) h
 
 token_of : (text : List ℕ) → 0 < length text → list_all is_token_byte text ≡ true → IsToken text
 token_of text some h = (some, AllPass-from_list_all is_token_byte text h)
@@ -783,17 +769,17 @@ pub request_is_read : RequestIsRead
 request_is_read place since ok base_is fits =
     let parts = parts_ok (is_host place.host) (is_base place.base)
     (is_contest place.contest) place place ok in
-    let host_text : is_text_of 255 (codes ".-:[]") place.host ≡ true = both_right
+    let host_text : is_text_of 255 (codes ".-:[]") place.host ≡ true = second_true
     (nat_lt 0 (length place.host)) (is_text_of 255 (codes ".-:[]") place.host) parts.0 in
-    let contest_text : is_text_of 64 (codes "._-") place.contest ≡ true = both_right
+    let contest_text : is_text_of 64 (codes "._-") place.contest ≡ true = second_true
     (nat_lt 0 (length place.contest)) (is_text_of 64 (codes "._-") place.contest) parts.1 in
     requests place.host place.base place.contest since base_is
-    (both_right (nat_le (length place.host) 255) (list_all host_byte place.host) host_text)
+    (second_true (nat_le (length place.host) 255) (list_all host_byte place.host) host_text)
     (at_most (length place.host) 255
-    (both_left (nat_le (length place.host) 255) (list_all host_byte place.host) host_text))
-    (both_right (nat_le (length place.contest) 64)
+    (first_true (nat_le (length place.host) 255) (list_all host_byte place.host) host_text))
+    (second_true (nat_le (length place.contest) 64)
     (list_all (is_alphanumeric_or (codes "._-")) place.contest) contest_text)
     (at_most (length place.contest) 64
-    (both_left (nat_le (length place.contest) 64)
+    (first_true (nat_le (length place.contest) 64)
     (list_all (is_alphanumeric_or (codes "._-")) place.contest) contest_text))
     fits

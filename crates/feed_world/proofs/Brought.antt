@@ -37,6 +37,7 @@ use Rattle.feed_world.proofs.Growth.{goes_up, fewer_blocks, deliveries_compose, 
 use Rattle.feed_world.proofs.Linked.{parts_have_text, none_at_first}
 use Rattle.feed_world.proofs.Responses.{joined_parts, are_texts, come_none, come_within, come_few}
 use Rattle.std.proofs.Math.Bool.{and-true as and_true}
+use Rattle.std.proofs.Math.Seq.{take-append_seam}
 
 -- ---- places
 
@@ -173,11 +174,7 @@ is_body (failed fault p) = false
 
 -- a prefix of a list is its first items
 pub prefix_is : (prefix behind text : List ℕ) → prefix ++ behind ≡ text → take (length prefix) text ≡ prefix
-prefix_is prefix behind text e = ap (take (length prefix)) (sym e) ∙ take_prefix prefix behind
-  where
-    take_prefix : (xs ys : List ℕ) → take (length xs) (xs ++ ys) ≡ xs
-    take_prefix [] ys = refl
-    take_prefix (x ∷ xs) ys = ap (λ zs. x ∷ zs) (take_prefix xs ys)
+prefix_is prefix behind text e = ap (take (length prefix)) (sym e) ∙ take-append_seam prefix behind
 
 module _ (prefixes : SentIsRead) (one : ReadingIsOne) (responses : ResponsesAreFollowed) (carry : PrefixesCarryMore) (limits : Limits) (log : Log) (is_log : IsLog limits log) where
   -- the token of a mirror that was here, after these blocks

@@ -10,7 +10,6 @@ pub mod Grown
 pub mod Growth
 pub mod Linked
 pub mod Listings
-pub mod Lists
 pub mod Moved
 pub mod Reached
 pub mod Refused

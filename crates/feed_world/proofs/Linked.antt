@@ -23,7 +23,7 @@ use Rattle.feed_world.specs.World.{Mirror}
 use Rattle.feed_world.proofs.Growth.{goes_up, sending_keeps_order}
 use Rattle.feed_world.proofs.Listings.{listing_is_some}
 use Rattle.feed_world.proofs.Responses.{one_frame_more, come_stays, come_within}
-use Rattle.feed_note.proofs.LinesCut.{second_true as both_true}
+use Rattle.feed_text.proofs.Choices.{second_true as both_true}
 
 -- ---- a batch has text
 

@@ -1,12 +1,13 @@
 -- A listing has a change, and empty tables have no size and are within any limits.
 use Rattle.std.proofs.Common.{◌≡◌, refl, ℕ, false, arith, List, [], ◌∷◌, flat_map, Option, Some, None}
+use Rattle.std.proofs.lemmas.Bool.{le-ltb as not_under}
 use Rattle.std.specs.Prelude.{◌≢◌}
 use Rattle.std.specs.FinMap.{entries}
 use Rattle.feed_tables.specs.Tables.{Contents, listed, or_clear, listing, size}
 use Rattle.feed_changes.specs.declared.change.Change.{Change}
 use Rattle.feed_node.specs.Bounds.{passes}
 use Rattle.feed_node.proofs.Mirrored.{none_large}
-use Rattle.feed_node.proofs.Bounds.{not_under, full_none}
+use Rattle.feed_node.proofs.Bounds.{full_none}
 
 pub listing_is_some : (contents : Contents) → listing contents ≢ []
 listing_is_some contents = by (flat_map listed (entries contents))

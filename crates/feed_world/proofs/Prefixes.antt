@@ -23,6 +23,7 @@ use Rattle.feed_world.proofs.Commits.{light_here, state_one_more, next_not_held,
 use Rattle.feed_world.proofs.Growth.{goes_up}
 use Rattle.feed_node.proofs.Bounds.{full_none}
 use Rattle.feed_node.proofs.TextLines.{cuts_of_one}
+use Rattle.feed_node.proofs.Going.{times-append}
 use Rattle.feed_world.proofs.Served.{holds}
 use Rattle.std.proofs.Math.Bool.{and-true as and_true}
 
@@ -36,12 +37,6 @@ not_zero n = by (suc n == 0) refl
     by : (b : Bool) → (suc n == 0) ≡ b → (suc n == 0) ≡ false
     by true e = let same : suc n ≡ 0 = eqb-true (suc n) 0 e in absurd (omega arith)
     by false e = e
-
-times-append : (s : StagingState) (ns ms : List Line) → times_published s (ns ++ ms) ≡ times_published s ns + times_published (steps s ns) ms
-times-append s [] ms = omega arith
-times-append s (n ∷ ns) ms =
-    let later = times-append (step s n) ns ms in
-    omega arith
 
 -- the lines of one part are taken and publish this many times, and before its end nothing is
 -- published

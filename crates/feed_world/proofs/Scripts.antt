@@ -1,8 +1,7 @@
 -- Runs of a world, computed.
 use Rattle.std.proofs.Common.{◌≡◌, sym, ap, ◌∙◌, ℕ, List, [], ◌∷◌, ◌++◌, length, Option, Some, None, Result, Ok, Err, refl, codes, Bool, true, false, cond, not, arith}
 use Rattle.std.specs.Fmt.{digits}
-use Rattle.std.specs.Cmp.{IsTotalOrder, eq_by_cmp_equiv, alike_right}
-use Rattle.std.specs.Cmp.Lexicographic.{nat_list_cmp_total}
+use Rattle.std.specs.Cmp.{eq_by_cmp_equiv, alike_right}
 use Rattle.std.specs.Ordering.{eq_by_cmp, is_eq}
 use Rattle.std.specs.FinMap.{FinMap, empty, entries, entries_sorted, find, from_sorted, entries-from_sorted, get-from_sorted, get-entries, get-remove, same_map, len-entries, len-empty, insert, remove, put, entries-insert, slice_cmp-IsAntisymmetric, nat_cmp-IsAntisymmetric}
 use Rattle.std.specs.FinMap.Entries.{is_sorted-where_key, find-where_key}
@@ -11,8 +10,10 @@ use Rattle.feed_settings.specs.declared.framing.Framing.TheVariants.{Close}
 use Rattle.feed_text.specs.Strings.{written_string}
 use Rattle.feed_tables.specs.Bytes.{byte_order, without}
 use Rattle.feed_tables.specs.Tables.{after}
+use Rattle.feed_tables.proofs.Maps.{turned}
 use Rattle.feed_changes.specs.declared.change.Change.{Change}
 use Rattle.feed_changes.specs.declared.change.Change.TheVariants.{Set, Remove, Single, Clear}
+use Rattle.feed_changes.proofs.Order.{total}
 use Rattle.feed_node.specs.Texts.{published_text}
 use Rattle.feed_node.specs.Bounds.{is_full, is_large}
 use Rattle.feed_node.specs.declared.primary.CommitFault.TheVariants.{EmptyBatch}
@@ -35,15 +36,8 @@ no_length (x ∷ es) e = absurd (omega arith)
 entries-empty : (X : Type 0) → entries (empty {X = X} {R = byte_order}) ≡ []
 entries-empty X = no_length _ (sym (len-entries (empty {X = X} {R = byte_order})) ∙ len-empty byte_order X)
 
-total : IsTotalOrder byte_order
-total = nat_list_cmp_total
-
 entries-inserted : {X : Type 0} (m : FinMap byte_order X) (k : List ℕ) (v : X) → entries (insert m k v) ≡ put byte_order k v (entries m)
 entries-inserted m k v = entries-insert total m k v
-
-turned : {A : Type 0} (b : Bool) (x y : A) → cond (not b) x y ≡ cond b y x
-turned true x y = refl
-turned false x y = refl
 
 module _ {X : Type 0} (m : FinMap byte_order X) (k : List ℕ) where
   found_without : (q : List ℕ) → find byte_order q (without k (entries m)) ≡ cond (eq_by_cmp byte_order q k) None (find byte_order q (entries m))

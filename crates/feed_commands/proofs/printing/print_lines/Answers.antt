@@ -1,8 +1,9 @@
 use Rattle.std.proofs.Common.{rules, refl, false, MutBor}
 use Rattle.std.proofs.lemmas.Result.{on_ok_weaker, on_err_weaker}
-use Rattle.feed_commands.proofs.PrintingLemmas.{ended_ok, ended_err, listed_err, on_any_err}
+use Rattle.feed_commands.proofs.PrintingLemmas.{ended_ok, ended_err, listed_err}
 use Rattle.feed_commands.specs.declared.printing.Waiting.{Waiting}
 use Rattle.feed_commands.proofs.printing.print_lines.Goals as goal
+use Rattle.feed_tables.proofs.Listers.{on_any_err}
 
 pub returns-in_err-list-clause-prefix : goal.returns-in_err-list-clause-prefix
 returns-in_err-list-clause-prefix g c =

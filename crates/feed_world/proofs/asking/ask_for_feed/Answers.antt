@@ -1,17 +1,13 @@
 use Rattle.std.proofs.Common.{refl, ◌∙◌, subst, [], codes}
-use Rattle.std.specs.Prelude.{Result, Ok, Err, IfOk}
 use Rattle.std.specs.Option.{option_copied}
 use Rattle.feed_settings.specs.Place.{make_place}
 use Rattle.feed_answer.specs.Answered.{AnswersTo, parts_of}
 use Rattle.feed_world.proofs.asking.ask_for_feed.Goals as goal
-
-where_ok : {A E : Type 0} (P Q : A → Type 0) (r : Result A E) → ((a : A) → P a → Q a) → IfOk r P → IfOk r Q
-where_ok P Q (Ok a) k p = k a p
-where_ok P Q (Err e) k p = tt
+use Rattle.feed_tables.proofs.Listers.{ok_becomes}
 
 pub returns : goal.returns
 returns c = λ may.
-    where_ok _ _ c.answer.result
+    ok_becomes _ _ c.answer.result
     (λ answered k. c.answer_laws.ensures.answered (make_place (codes "world") [] (codes "world")) (option_copied c.args.since) c.args.server.now.shown c.args.framing c.args.back
     (parts_of answered.status answered.framing answered.bytes.items answered.session) refl refl may
     (subst (λ head. AnswersTo head (codes "world") c.args.server.now.shown c.args.framing c.args.back (parts_of answered.status answered.framing answered.bytes.items answered.session))
