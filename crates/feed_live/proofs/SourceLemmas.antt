@@ -1,5 +1,5 @@
 -- How the steps of a source stay at places of the log.
-use Rattle.std.proofs.Common.{◌≡◌, sym, ◌∙◌, subst, ℕ, zero, suc, ◌-◌, arith, List, [], ◌∷◌, length, Option}
+use Rattle.std.proofs.Common.{◌≡◌, ◌≤◌, sym, ◌∙◌, subst, ℕ, zero, suc, ◌-◌, arith, List, [], ◌∷◌, length, Option}
 use Rattle.std.specs.Prelude.{Bool, false, true, None, Some, IfSome, MatchOption, IsSome, Contains, slice_get, Result, Ok, Err, option_map}
 use Rattle.std.specs.Result.{is_err}
 use Rattle.feed_settings.specs.Limits.{Limits}
@@ -15,6 +15,7 @@ use Rattle.feed_live.specs.declared.source.Reach.TheVariants.{Connects, Asks}
 use Rattle.feed_live.specs.declared.source.Source.{Source}
 use Rattle.feed_live.specs.Relaying.{pursuit, MayFollow, WasLeft, StillFollows, within_turn}
 use Rattle.feed_live.specs.Upstream.{Servers, AreKnownHonest}
+use Rattle.feed_live.specs.Waiting.{IsBy}
 use Rattle.feed_live.proofs.RelayLemmas.{with_left, opens_follows}
 
 -- the server was left
@@ -51,6 +52,14 @@ fails_so (Err e) old new server is begins = begins
 pub some_so : {A : Type 0} {P Q : A → Type 0} (found : Option A) → ((value : A) → P value → Q value) → IfSome found P → IfSome found Q
 some_so None change given = tt
 some_so (Some value) change given = change value given
+
+-- no later than what is no later
+pub at_most_so : {a b c : ℕ} → a ≤ b → b ≤ c → a ≤ c
+at_most_so one two = omega (arith, one, two)
+
+pub by_sooner : (at : Option ℕ) {sooner due : ℕ} → sooner ≤ due → IsBy at due → IsBy at sooner
+by_sooner None before by = tt
+by_sooner (Some at) before by = omega (arith, before, by)
 
 -- ---- tokens
 

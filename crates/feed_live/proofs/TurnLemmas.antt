@@ -1,7 +1,7 @@
 -- How a turn stays at places of the log.
-use Rattle.std.proofs.Common.{◌≡◌, ◌≢◌, refl, eqb-true, inl, inr, sym, ap, ◌∙◌, subst, ℕ, List, [], length, nat_eq, Bool, None, Option, ◌<◌}
+use Rattle.std.proofs.Common.{◌≡◌, ◌≢◌, refl, eqb-true, inl, inr, sym, ap, ◌∙◌, subst, ℕ, List, [], length, nat_eq, Bool, None, Some, Option, ◌<◌, ◌≤◌}
 use Rattle.std.proofs.lemmas.Bool.Decides.{eqb_tells}
-use Rattle.std.specs.Prelude.{◌==◌, ◌⊎◌, ◌&&◌, true, not, Contains, false, is_none, is_some, IsSome, string_bytes}
+use Rattle.std.specs.Prelude.{◌==◌, ◌⊎◌, ◌&&◌, if◌then◌else◌, nat_le, true, not, Contains, false, is_none, is_some, IsSome, string_bytes}
 use Rattle.std.proofs.lemmas.List.{nil_from_length}
 use Rattle.slab.specs.Slab.{Slab}
 use Rattle.feed_settings.specs.Limits.{Limits}
@@ -10,20 +10,27 @@ use Rattle.feed_node.specs.States.{NodeState, published_token}
 use Rattle.feed_world.specs.Log.{Log}
 use Rattle.feed_hub.specs.declared.hub.Hub.{Hub}
 use Rattle.feed_laws.specs.Laws.{IsInLog}
-use Rattle.feed_device.specs.Calls.{CalledAtLeastOnce}
+use Rattle.feed_device.specs.Calls.{CalledOnce, CalledAtLeastOnce}
 use Rattle.feed_device.specs.Links.{Exchanges}
 use Rattle.feed_device.specs.Sockets.{AllSockets}
 use Rattle.feed_screens.specs.declared.conn.Conn.{Conn}
 use Rattle.feed_device.specs.declared.desk.Desk.{Desk}
 use Rattle.feed_screens.specs.declared.screens.Screens.{Screens}
+use Rattle.feed_live.specs.declared.source.Reach.{Reach}
 use Rattle.feed_live.specs.declared.source.Reach.TheVariants.{Away}
+use Rattle.feed_live.specs.declared.source.returning.Returning.{Returning}
+use Rattle.feed_live.specs.Waiting.{BeginsOne, IsLeft, is_past, late_at, why_late, why_left}
+use Rattle.feed_device.specs.declared.report.Why.{Why}
+use Rattle.feed_device.specs.declared.report.Why.TheVariants.{Silent}
+use Rattle.feed_hub.specs.Upstream.{later}
+use Rattle.feed_hub.specs.declared.upstream.Upstream.{Upstream}
 use Rattle.feed_live.specs.declared.source.Source.{Source}
 use Rattle.feed_live.specs.declared.turn.Input.{Input}
 use Rattle.feed_live.specs.declared.turn.Input.TheVariants.{End}
 use Rattle.feed_live.specs.declared.turn.Live.{Live}
 use Rattle.feed_live.specs.Answering.{has_heard}
 use Rattle.feed_live.specs.Ending.{SameBeside}
-use Rattle.feed_live.specs.Relaying.{pursuit, pursuit_of, MayFollow, AnswersFromLog, FollowsServers, IsRelaying, SameSource, OnlyServes, followed_by, screen_side, within_turn}
+use Rattle.feed_live.specs.Relaying.{pursuit, pursuit_of, MayFollow, AnswersFromLog, FollowsServers, IsRelaying, SameSource, SameWaiting, OnlyServes, GoesOn, IsToConnect, followed_by, screen_side, within_turn}
 use Rattle.feed_screens.specs.Serving.{ServesScreens, StillServing}
 use Rattle.feed_live.specs.States.{states_of}
 use Rattle.feed_live.specs.Taking.{IsTakingInput, ShowsInput, BeginsInput}
@@ -37,6 +44,19 @@ use Rattle.feed_live.proofs.RelayLemmas.{either, among_shown, among_blank, shows
 pub same_none : (source : Source) → SameSource source source
 same_none source = record { servers = refl; shown = refl; blank = refl; coming = refl; follower = refl; reach = refl; request = refl; rest = refl }
 
+pub waiting_none : (source : Source) → SameWaiting source source
+waiting_none source = record { upstream = refl; reach = refl; returning = refl; opened = refl; body_since = refl }
+
+pub waiting_then : {a b c : Source} → SameWaiting b c → SameWaiting a b → SameWaiting a c
+waiting_then two one =
+    record {
+      upstream = two.upstream ∙ one.upstream;
+      reach = two.reach ∙ one.reach;
+      returning = two.returning ∙ one.returning;
+      opened = two.opened ∙ one.opened;
+      body_since = two.body_since ∙ one.body_since;
+    }
+
 pub same_then : {a b c : Source} → SameSource b c → SameSource a b → SameSource a c
 same_then two one =
     record {
@@ -49,6 +69,51 @@ same_then two one =
       request = two.request ∙ one.request;
       rest = two.rest ∙ one.rest;
     }
+
+-- ---- a server is waited for
+
+-- a connection is due in either
+pub to_connect_same : {a b : Source} {now : ℕ} → SameWaiting a b → SameSource a b → IsToConnect a now → IsToConnect b now
+to_connect_same {a} {b} {now} waiting same is =
+    record {
+      away = waiting.reach ∙ is.away;
+      none = ap (λ u. u.follower) waiting.upstream ∙ is.none;
+      due = subst (λ u. u.since ≤ now) (sym waiting.upstream) is.due;
+      place = subst (λ u. u.place < length b.places.items) (sym waiting.upstream) (subst (λ s. a.upstream.place < length s.places) (sym same.servers) is.place);
+    }
+
+why_by : Upstream → Reach → Returning → ℕ → Option ℕ → ℕ → ℕ → Option Why
+why_by upstream reach returning opened body_since idle now =
+    if is_some upstream.follower && nat_le (later (later upstream.since idle) idle) now then Some Silent
+    else if is_past (late_at reach returning opened body_since) now then Some (why_late reach)
+    else None
+
+-- a server is left for the same
+why_same : {a b : Source} (idle now : ℕ) → SameWaiting a b → why_left b idle now ≡ why_left a idle now
+unfolding why_by
+why_same {a} {b} idle now waiting =
+    ap (λ u. why_by u b.reach b.returning b.opened b.body_since idle now) waiting.upstream
+    ∙ ap (λ r. why_by a.upstream r b.returning b.opened b.body_since idle now) waiting.reach
+    ∙ ap (λ r. why_by a.upstream a.reach r b.opened b.body_since idle now) waiting.returning
+    ∙ ap (λ o. why_by a.upstream a.reach a.returning o b.body_since idle now) waiting.opened
+    ∙ ap (λ s. why_by a.upstream a.reach a.returning a.opened s idle now) waiting.body_since
+
+pub left_same : {a b : Source} (idle now : ℕ) → SameWaiting a b → IsLeft a idle now → IsLeft b idle now
+left_same {a} {b} idle now waiting is =
+    (λ away. is.0 (sym waiting.reach ∙ away), λ none. is.1 (sym (why_same idle now waiting) ∙ none))
+
+-- one was begun, from the same to the same
+pub begins_same : {before after : Option ℕ} (a b c d : Source) {now time : ℕ} → b.upstream ≡ a.upstream → d.upstream ≡ c.upstream → time ≡ now
+    → BeginsOne before after b c time → BeginsOne before after a d now
+begins_same {before} {after} a b c d {now} {time} old new at begins =
+    subst (λ u. CalledOnce before after ⊎ ((after ≡ before) × GoesOn a.upstream u now)) (sym new)
+    (subst (λ u. CalledOnce before after ⊎ ((after ≡ before) × GoesOn u c.upstream now)) old
+    (subst (λ t. CalledOnce before after ⊎ ((after ≡ before) × GoesOn b.upstream c.upstream t)) at begins))
+
+-- one was begun, or there still is none
+pub away_still : {A : Type 0} {reach later : Reach} → later ≡ reach → A ⊎ (reach ≡ Away) → A ⊎ (later ≡ Away)
+away_still same (inl begun) = inl begun
+away_still same (inr away) = inr (same ∙ away)
 
 -- numbers that differ
 pub differ_so : (a b : ℕ) → a ≢ b → not (a == b) ≡ true
@@ -75,7 +140,7 @@ heard_same {a} {b} same is =
 
 pub serves_none : (live : Live) (sockets : AllSockets) → OnlyServes live live sockets sockets
 serves_none live sockets =
-    record { contest = refl; ends = (refl, refl); feeds = refl; source = same_none live.source; heard = refl; epoch = refl; serves = λ nodes shown blank serving. serving }
+    record { contest = refl; ends = (refl, refl); feeds = refl; source = same_none live.source; waiting = waiting_none live.source; heard = refl; epoch = refl; serves = λ nodes shown blank serving. serving }
 
 pub serves_then : {a b c : Live} {before between after : AllSockets} → OnlyServes b c between after → OnlyServes a b before between → OnlyServes a c before after
 serves_then {a} {b} {c} {before} {between} {after} two one =
@@ -84,6 +149,7 @@ serves_then {a} {b} {c} {before} {between} {after} two one =
       ends = (two.ends.0 ∙ one.ends.0, two.ends.1 ∙ one.ends.1);
       feeds = two.feeds ∙ one.feeds;
       source = same_then two.source one.source;
+      waiting = waiting_then two.waiting one.waiting;
       heard = two.heard ∙ one.heard;
       epoch = two.epoch ∙ one.epoch;
       serves = λ nodes shown blank serving.
@@ -101,7 +167,7 @@ pub screens_only : (live : Live) (screens : Screens) (desk : Desk) {before after
     → ((nodes : List NodeState) → Contains nodes live.source.answers.shown.mirror.node → (has_heard live.source ≡ false → Contains nodes live.source.answers.blank.mirror.node)
     → StillServing nodes (string_bytes live.contest) live.screens screens before after)
     → OnlyServes live (record live { screens = screens; desk = desk }) before after
-screens_only live screens desk serves = record { contest = refl; ends = (refl, refl); feeds = refl; source = same_none live.source; heard = refl; epoch = refl; serves = serves }
+screens_only live screens desk serves = record { contest = refl; ends = (refl, refl); feeds = refl; source = same_none live.source; waiting = waiting_none live.source; heard = refl; epoch = refl; serves = serves }
 
 module _ (limits : Limits) (log : Log) where
   -- its feed is its input

@@ -1,9 +1,11 @@
 -- When a relay is to have its next turn.
 use Rattle.std.specs.Prelude.{◌≡◌, ◌≢◌, ℕ, ◌≤◌, true, false, [], None, IfSome}
 use Rattle.feed_live.specs.declared.turn.Live.{Live}
+use Rattle.feed_live.specs.Waiting.{LooksInTime, silent_at}
 
 -- It is due in time for its state files: at once where there is more to write, and after a failure
--- when they are tried again. So it is for its end, and, unless it ends, for the next connection.
+-- when they are tried again. So it is for its end; and, unless it ends, for the next connection, and
+-- for the server that is followed: when it is silent, late, or for anything else to be looked at.
 pub record IsDueInTime (live : Live) (now due : ℕ) : Type 0 where
   pub saves : IfSome live.saved (λ saved. saved.has_more ≡ true → due ≤ now)
   pub again : IfSome live.saved (λ saved. saved.has_more ≡ false → saved.is_failing ≡ true
@@ -11,3 +13,7 @@ pub record IsDueInTime (live : Live) (now due : ℕ) : Type 0 where
   pub ends : IfSome live.ends_at (λ at. due ≤ at)
   pub connects : live.ends_at ≡ None → live.source.upstream.follower ≡ None
       → live.source.places.items ≢ [] → due ≤ live.source.upstream.since
+  pub silent : live.ends_at ≡ None → live.source.upstream.follower ≢ None
+      → live.source.places.items ≢ []
+      → due ≤ silent_at live.source live.limits.screens.idle
+  pub looks : live.ends_at ≡ None → live.source.places.items ≢ [] → LooksInTime live.source due

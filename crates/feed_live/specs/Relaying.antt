@@ -10,6 +10,7 @@ use Rattle.feed_follow.specs.Follower.{FollowerState, FollowsAt}
 use Rattle.feed_follow.specs.Standing.{Standing}
 use Rattle.feed_world.specs.Log.{Log}
 use Rattle.feed_hub.specs.declared.hub.Hub.{Hub}
+use Rattle.feed_hub.specs.declared.upstream.Upstream.{Upstream}
 use Rattle.feed_laws.specs.Laws.{IsInLog}
 use Rattle.feed_hub.specs.Upstream.{next_place, counted_on, asked_next, later}
 use Rattle.feed_device.specs.Links.{Exchange, Exchanges, Shown, nothing_shown, once_at, all_from, shown_so}
@@ -222,6 +223,14 @@ pub record SameSource (old new : Source) : Type 0 where
   pub request : new.request.items ≡ old.request.items
   pub rest : new.rest.items ≡ old.rest.items
 
+-- nothing changed of what a server is waited for, nor of which one is asked, and when
+pub record SameWaiting (old new : Source) : Type 0 where
+  pub upstream : new.upstream ≡ old.upstream
+  pub reach : new.reach ≡ old.reach
+  pub returning : new.returning ≡ old.returning
+  pub opened : new.opened ≡ old.opened
+  pub body_since : new.body_since ≡ old.body_since
+
 -- the same but for what is kept unread
 pub record SameButUnread (old new : Source) : Type 0 where
   pub servers : servers_of new ≡ servers_of old
@@ -249,12 +258,15 @@ pub record IsToConnect (source : Source) (now : ℕ) : Type 0 where
   pub place : source.upstream.place < length source.places.items
 
 -- the next place is asked, at once or after a pause
+abbrev pub GoesOn : Upstream → Upstream → ℕ → Type 0
+GoesOn old new now =
+    (new.place ≡ next_place old.place old.places)
+    × (new.failed ≡ counted_on old.failed old.places)
+    × (new.since ≡ asked_next (next_place old.place old.places) (later old.began 1000) old.failed
+    old.places now old.pause)
+
 abbrev pub GoesOnTo : Source → Source → ℕ → Type 0
-GoesOnTo old new now =
-    (new.upstream.place ≡ next_place old.upstream.place old.upstream.places)
-    × (new.upstream.failed ≡ counted_on old.upstream.failed old.upstream.places)
-    × (new.upstream.since ≡ asked_next (next_place old.upstream.place old.upstream.places)
-    (later old.upstream.began 1000) old.upstream.failed old.upstream.places now old.upstream.pause)
+GoesOnTo old new now = GoesOn old.upstream new.upstream now
 
 -- where one began afresh, what is shown is the same; else that is what follows
 abbrev pub KeepsShown : Option MirrorState → Option MirrorState → MirrorState → MirrorState → Type 0
@@ -302,6 +314,7 @@ pub record OnlyServes (old new : Live) (before after : AllSockets) : Type 0 wher
   pub ends : SameEnd old new
   pub feeds : new.feeds ≡ old.feeds
   pub source : SameSource old.source new.source
+  pub waiting : SameWaiting old.source new.source
   pub heard : new.source.is_heard ≡ old.source.is_heard
   pub epoch : new.source.epoch ≡ old.source.epoch
   pub serves : (nodes : List NodeState) → Contains nodes old.source.answers.shown.mirror.node

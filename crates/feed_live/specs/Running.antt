@@ -19,6 +19,7 @@ use Rattle.feed_live.specs.declared.turn.Input.{Input}
 use Rattle.feed_live.specs.declared.turn.Input.TheVariants.{Nothing, Bytes, End}
 use Rattle.feed_live.specs.declared.turn.Live.{Live}
 use Rattle.feed_live.specs.declared.turn.Turn.{Turn}
+use Rattle.feed_live.specs.Due.{IsDueInTime}
 use Rattle.feed_live.specs.Ending.{EndsWithInput}
 use Rattle.feed_live.specs.Laws.{ShowsTheLog}
 use Rattle.feed_live.specs.Relaying.{IsRelaying, StillRelaying}
@@ -147,6 +148,7 @@ pub record IsTurn (old new : Moment) : Type 0 where
   pub wakes : new.live.screens.has_more ≡ true → new.next.due ≤ now
   pub says : IfSome new.live.screens.saying.waits (λ at. now ≤ at → new.next.due ≤ at)
   pub awake : new.next.due ≤ min (new.live.reported + 60000) (2 ^ 64 - 1)
+  pub due : IsDueInTime new.live now new.next.due
   pub ends : EndsWithInput old.live new.live given
   pub takes : new.next.takes_input
       ≡ (is_none new.live.ends_at && is_none new.live.screens.saying.waits)

@@ -1,6 +1,8 @@
 //! The server that is followed, and the mirror of what it sends.
 
-ghost use Rattle.std.specs.Prelude.{◌≡◌, ◌≢◌, ◌<◌, ◌≤◌, [], None, Some, false, true};
+ghost use Rattle.std.specs.Prelude.{◌≡◌, ◌≢◌, ◌<◌, ◌≤◌, ◌⊎◌, [], None, Some, false, true};
+ghost use Rattle.feed_hub.specs.Upstream.{later};
+ghost use Rattle.feed_live.specs.Waiting.{LooksInTime, IsBy, heard_time};
 
 mod connecting;
 mod input;
@@ -99,8 +101,20 @@ fn answers_at_once(mirror: &Mirror, places: &[Place], serves_old: bool) -> bool
     serves_old || places.is_empty() || mirror.node().token().is_none()
 }
 
+/// The sooner one of a time and another one, if there is one.
+fn sooner(due: u64, at: Option<u64>) -> u64
+    ensures least { result ≤ due }
+    ensures by { IsBy at result }
+    ensures one { (result ≡ due) ⊎ (Some result ≡ at) }
+{
+    match at {
+        Some(at) => due.min(at),
+        None => due,
+    }
+}
+
 impl Source {
-    ghost use Rattle.feed_live.specs.Relaying.{SameSource};
+    ghost use Rattle.feed_live.specs.Relaying.{SameSource, SameWaiting};
     ghost use Rattle.feed_live.specs.declared.source.Reach.TheVariants.{Away};
     ghost use Rattle.feed_live.specs.Answering.{has_heard};
 
@@ -167,6 +181,7 @@ impl Source {
     /// Forgets the text of the snapshot, where no screen has any of it.
     pub(crate) fn tidy(&mut self)
         ensures same { SameSource self.old self.new }
+        ensures waits { SameWaiting self.old self.new }
         ensures heard { self.new.is_heard ≡ self.old.is_heard }
         ensures epoch { self.new.epoch ≡ self.old.epoch }
     {
@@ -188,7 +203,9 @@ impl Source {
         self.epoch
     }
 
-    pub(crate) fn has_more(&self) -> bool {
+    pub(crate) fn has_more(&self) -> bool
+        ensures { result ≡ self.now.has_more }
+    {
         self.has_more
     }
 
@@ -200,6 +217,7 @@ impl Source {
     /// An event came for the connection.
     pub(crate) fn wake(&mut self)
         ensures same { SameSource self.old self.new }
+        ensures waits { SameWaiting self.old self.new }
         ensures heard { self.new.is_heard ≡ self.old.is_heard }
         ensures epoch { self.new.epoch ≡ self.old.epoch }
     {
@@ -208,29 +226,33 @@ impl Source {
 
     /// When something is due for which no event comes.
     pub(crate) fn due(&self, idle: u64) -> u64
-        ensures { self.now.upstream.follower ≡ None → result ≤ self.now.upstream.since }
+        ensures connects { self.now.upstream.follower ≡ None → result ≤ self.now.upstream.since }
+        ensures silent { self.now.upstream.follower ≢ None
+            → result ≤ later (later self.now.upstream.since idle) idle }
+        ensures looks { LooksInTime self.now result }
     {
         self.upstream.due(idle).min(self.looks_at())
     }
 
     /// When the server is looked at, or something is reported; never where nothing is to come.
-    fn looks_at(&self) -> u64 {
-        let dues = [
-            self.late_at(),
-            self.returns_at(),
-            self.settles_at(),
-            self.reports_at(),
-            self.heard_at(),
-            self.newest_at(),
-            self.figures.warns_at(),
-        ];
-        dues.iter().flatten().fold(u64::MAX, |due, at| due.min(*at))
+    fn looks_at(&self) -> u64
+        ensures { LooksInTime self.now result }
+    {
+        let due = sooner(u64::MAX, self.late_at());
+        let due = sooner(due, self.returns_at());
+        let due = sooner(due, self.heard_at());
+        let due = sooner(due, self.newest_at());
+        let due = sooner(due, self.settles_at());
+        let due = sooner(due, self.reports_at());
+        sooner(due, self.figures.warns_at())
     }
 
     /// When the server counts as heard though it publishes nothing: it answered with what comes
     /// after our token. One that was asked for everything counts only once it has published, and
     /// one that was asked for the newest commit again not before that came.
-    fn heard_at(&self) -> Option<u64> {
+    fn heard_at(&self) -> Option<u64>
+        ensures { result ≡ heard_time self.now }
+    {
         if self.is_heard || self.is_fresh || self.rechecking.is_going() {
             return None;
         }

@@ -5,7 +5,7 @@ ghost use Rattle.feed_settings.specs.Limits.{Limits};
 ghost use Rattle.feed_node.specs.States.{NodeState};
 ghost use Rattle.feed_world.specs.Log.{Log};
 ghost use Rattle.feed_laws.specs.Laws.{IsInLog};
-ghost use Rattle.feed_device.specs.Calls.{CalledAtLeastOnce};
+ghost use Rattle.feed_device.specs.Calls.{CalledOnce, CalledAtLeastOnce};
 ghost use Rattle.feed_device.specs.Links.{Exchanges};
 ghost use Rattle.feed_device.specs.Sockets.{AllSockets, IsUnused};
 ghost use Rattle.feed_live.specs.Upstream.{Servers};
@@ -74,7 +74,9 @@ pub struct Live {
 }
 
 impl Live {
-    ghost use Rattle.feed_live.specs.Relaying.{IsRelaying, StillRelaying, OnlyServes};
+    ghost use Rattle.feed_live.specs.Relaying.{IsRelaying, IsToConnect, StillRelaying, OnlyServes};
+    ghost use Rattle.feed_live.specs.Waiting.{BeginsOne, IsLeft};
+    ghost use Rattle.feed_live.specs.declared.source.Reach.TheVariants.{Away};
     ghost use Rattle.feed_live.specs.Taking.{IsTakingInput, StillTaking, StopsTaking, bytes_in};
     ghost use Rattle.feed_live.specs.Ending.{SameBeside, SameSaved};
     ghost use Rattle.feed_screens.specs.Owed.{OwesWhatIsKept};
@@ -269,6 +271,20 @@ impl Live {
         // nothing but the end of its input sets an end to it
         ensures ends { EndsWithInput self.old self.new input.entry }
 
+        // where a server is to be connected to, that is begun, once; or memory ran out, and the next
+        // one is asked after that
+        ensures begins { self.old.feeds ≡ false → self.new.ends_at ≡ None
+            → IsToConnect self.old.source now
+            → BeginsOne (L.begun devices.old.link) (L.begun devices.new.link)
+            self.old.source self.new.source now }
+
+        // one that is late or silent is left; the next one may be connected to at once
+        ensures leaves { self.old.feeds ≡ false → self.new.ends_at ≡ None
+            → self.old.source.places.items ≢ []
+            → IsLeft self.old.source self.old.limits.screens.idle now
+            → CalledOnce (L.begun devices.old.link) (L.begun devices.new.link)
+            ⊎ (self.new.source.reach ≡ Away) }
+
         // input may be read, unless an end is set or something waits to be said
         ensures takes { result.takes_input
             ≡ (is_none self.new.ends_at && is_none self.new.screens.saying.waits) }
@@ -305,6 +321,7 @@ impl Live {
     /// Marks what became ready.
     fn note(&mut self, events: &[Ready])
         ensures serves { (sockets : AllSockets) → OnlyServes self.old self.new sockets sockets }
+        ensures desk { self.new.desk ≡ self.old.desk }
         ensures saved { SameBeside self.old self.new }
     {
         for event in events {
@@ -315,6 +332,7 @@ impl Live {
     /// Marks one of them.
     fn note_one(&mut self, event: Ready)
         ensures serves { (sockets : AllSockets) → OnlyServes self.old self.new sockets sockets }
+        ensures desk { self.new.desk ≡ self.old.desk }
         ensures saved { SameBeside self.old self.new }
     {
         match event {

@@ -1,6 +1,6 @@
 //! The connection to a server: it is begun, asked and left.
 
-ghost use Rattle.std.specs.Prelude.{◌≡◌, ◌<◌, ◌⊎◌, None, Some, IfOk, IfSome, IsSome, drop, length};
+ghost use Rattle.std.specs.Prelude.{◌≡◌, ◌≢◌, ◌<◌, ◌⊎◌, ◌||◌, ◌&&◌, ℕ, None, Some, Err, IfOk, IfSome, IsSome, drop, false, length, not, is_some};
 ghost use Rattle.feed_device.specs.Calls.{CalledOnce};
 ghost use Rattle.feed_node.specs.States.{published_token};
 
@@ -18,11 +18,14 @@ use std::alloc::{AllocError, Global};
 impl Source {
     ghost use Rattle.feed_live.specs.Relaying.{StillFollows, SameSource, WasLeft, GoesOnTo, IsToConnect, servers_of, within_turn};
     ghost use Rattle.feed_live.specs.Upstream.{IsRequestOf, IsRequestWith, asked_with};
-    ghost use Rattle.feed_live.specs.declared.source.Reach.TheVariants.{Away, Asks as Asked};
+    ghost use Rattle.feed_live.specs.Waiting.{connect_time, has_left_quiet, heard_time, is_end, is_past, late_time, why_late, why_left, LeavesLate, IsLeft, IsToStay, IsAtRest};
+    ghost use Rattle.feed_live.specs.declared.source.Reach.TheVariants.{Away, Connects as Connecting, Asks as Asked};
     ghost use Rattle.feed_screens.specs.declared.screens.Screens.{Screens};
 
     /// When a server is late: it does not take the connection, or does not answer.
-    pub(crate) fn late_at(&self) -> Option<u64> {
+    pub(crate) fn late_at(&self) -> Option<u64>
+        ensures { result ≡ late_time self.now }
+    {
         match self.reach {
             Reach::Away => None,
             Reach::Connects(since) => Some(since.saturating_add(self.connect_time())),
@@ -34,7 +37,9 @@ impl Source {
     }
 
     /// Why a server is late.
-    fn why_late(&self) -> Why {
+    fn why_late(&self) -> Why
+        ensures { result ≡ why_late self.now.reach }
+    {
         match self.reach {
             Reach::Connects(_) => Why::Late,
             _ => Why::NoAnswer,
@@ -43,7 +48,9 @@ impl Source {
 
     /// How long a server may take to take a connection: not long where another one was left for it
     /// that did not fail.
-    fn connect_time(&self) -> u64 {
+    fn connect_time(&self) -> u64
+        ensures { result ≡ connect_time self.now.returning }
+    {
         if self.returning.has_left_quiet() {
             CONNECT_TIME / 5
         } else {
@@ -62,6 +69,15 @@ impl Source {
         ensures begins { IsToConnect self.old desk.old.time
             → CalledOnce (L.begun link.old) (L.begun link.new)
             ⊎ ((L.begun link.new ≡ L.begun link.old) × GoesOnTo self.old self.new desk.old.time) }
+        // one that is late or silent is left; the next one may be connected to at once
+        ensures leaves { IsLeft self.old idle desk.old.time
+            → CalledOnce (L.begun link.old) (L.begun link.new) ⊎ (self.new.reach ≡ Away) }
+        // one that is neither, and not to be left for anything else, is followed on
+        ensures stays { self.old.reach ≢ Away → IsToStay self.old idle desk.old.time
+            → SameSource self.old self.new × (L.begun link.new ≡ L.begun link.old) }
+        // where there was no connection, or it was left, there is nothing to read yet
+        ensures rests { IsToConnect self.old desk.old.time ⊎ IsLeft self.old idle desk.old.time
+            → IsAtRest self.new }
     {
         self.leave_due(desk, link, idle);
         self.hear_quiet(desk);
@@ -78,6 +94,11 @@ impl Source {
         // none is left where there is none
         ensures away { self.old.reach ≡ Away → (self.new ≡ self.old)
             × (L.begun link.new ≡ L.begun link.old) × (desk.new.time ≡ desk.old.time) }
+        // one that is late or silent is left, and the next one is asked
+        ensures leaves { LeavesLate self.old self.new idle desk.old.time }
+        // one that is neither, and not to be left for anything else, is followed on
+        ensures stays { IsToStay self.old idle desk.old.time → self.new ≡ self.old }
+        ensures calls { L.begun link.new ≡ L.begun link.old }
     {
         if self.reach == Reach::Away {
             return;
@@ -95,7 +116,9 @@ impl Source {
     }
 
     /// Why a server is to be left now, if it is.
-    fn leaves(&self, idle: u64, now: u64) -> Option<Why> {
+    fn leaves(&self, idle: u64, now: u64) -> Option<Why>
+        ensures { result ≡ why_left self.now idle now }
+    {
         if self.upstream.is_silent(idle, now) {
             return Some(Why::Silent);
         }
@@ -110,6 +133,9 @@ impl Source {
     /// it sends has no tokens, that is reported.
     fn hear_quiet(&mut self, desk: &mut Desk)
         ensures same { SameSource self.old self.new }
+        ensures heard { self.new.is_heard
+            ≡ (self.old.is_heard || is_past (heard_time self.old) desk.old.time) }
+        ensures more { self.new.has_more ≡ self.old.has_more }
         ensures upstream { self.new.upstream ≡ self.old.upstream }
         ensures time { desk.new.time ≡ desk.old.time }
     {
@@ -130,6 +156,15 @@ impl Source {
         ensures begins { self.old.upstream.place < length self.old.places.items
             → CalledOnce (L.begun link.old) (L.begun link.new)
             ⊎ ((L.begun link.new ≡ L.begun link.old) × GoesOnTo self.old self.new desk.old.time) }
+        ensures away { self.old.reach ≡ Away
+            → CalledOnce (L.begun link.old) (L.begun link.new) ⊎ (self.new.reach ≡ Away) }
+        // there is nothing to read yet
+        ensures rests { self.old.reach ≡ Away → self.old.has_more ≡ false → IsAtRest self.new }
+        ensures waits { self.old.reach ≡ Away
+            → self.old.upstream.place < length self.old.places.items → IsAtRest self.new }
+        // from now on it may be late
+        ensures opened { self.old.reach ≡ Away → (since : ℕ) → self.new.reach ≡ Connecting since
+            → (since ≡ desk.old.time) × (self.new.opened ≡ desk.old.time) }
     {
         let coming = match self.begin_afresh(desk.alloc) {
             Ok(coming) => coming,
@@ -176,6 +211,7 @@ impl Source {
         self.opened = desk.time;
         self.is_at_start = true;
         self.location = None;
+        self.has_more = false;
         self.reach = Reach::Connects(desk.time);
     }
 
@@ -217,6 +253,7 @@ impl Source {
         ensures left { WasLeft self.old self.new (L.exchanges link.old) (L.exchanges link.new) }
         ensures calls { L.begun link.new ≡ L.begun link.old }
         ensures next { GoesOnTo self.old self.new desk.old.time }
+        ensures rests { self.new.has_more ≡ false }
     {
         let server = self.upstream.place();
         let is_reported = self.lose();
@@ -237,6 +274,8 @@ impl Source {
     fn lose(&mut self) -> bool
         ensures same { SameSource self.old self.new }
         ensures upstream { self.new.upstream ≡ self.old.upstream }
+        ensures reported { result
+            ≡ (is_some self.old.body_since || not (has_left_quiet self.old.returning)) }
     {
         if self.body_since.is_some() {
             self.returning.lose();
@@ -247,6 +286,8 @@ impl Source {
     /// A server that ended its answer has sent all that comes after our token.
     fn hear_end(&mut self, why: Why)
         ensures same { SameSource self.old self.new }
+        ensures heard { self.new.is_heard
+            ≡ (self.old.is_heard || is_end why && is_some (heard_time self.old)) }
         ensures upstream { self.new.upstream ≡ self.old.upstream }
     {
         if matches!(why, Why::Ended) && self.heard_at().is_some() {
@@ -261,6 +302,8 @@ impl Source {
         ensures answers { self.new.answers ≡ self.old.answers }
         ensures upstream { self.new.upstream ≡ self.old.upstream }
         ensures away { self.new.reach ≡ Away }
+        ensures rests { self.new.has_more ≡ false }
+        ensures opened { self.new.opened ≡ self.old.opened }
     {
         link.close();
         if self.body_since.is_some() {
@@ -340,7 +383,9 @@ impl Source {
 }
 
 /// Why no connection was begun, where none was.
-fn why_not(begun: Result<(), Why>) -> Why {
+fn why_not(begun: Result<(), Why>) -> Why
+    ensures { (why : Why) → begun ≡ Err why → result ≡ why }
+{
     match begun {
         Ok(()) => Why::Refuses,
         Err(why) => why,

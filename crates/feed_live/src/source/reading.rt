@@ -27,7 +27,7 @@ const LOCATION: &[u8] = b"location:";
 
 impl Source {
     ghost use Rattle.feed_live.specs.Relaying.{StillFollows, SameSource, within_turn};
-    ghost use Rattle.feed_live.specs.Relaying.{SameButUnread, WasLeft, PushesOnly, followed_by};
+    ghost use Rattle.feed_live.specs.Relaying.{SameButUnread, SameWaiting, WasLeft, PushesOnly, followed_by};
     ghost use Rattle.feed_screens.specs.Serving.{StillServes, StillStand, AllEnd, SaysAll};
     ghost use Rattle.feed_live.specs.declared.source.Reach.TheVariants.{Away, Reads as Read};
 
@@ -385,6 +385,7 @@ impl Source {
     /// Says what had to wait.
     pub(crate) fn say_more(&mut self, desk: &Desk, screens: &mut Screens)
         ensures same { SameSource self.old self.new }
+        ensures waits { SameWaiting self.old self.new }
         ensures heard { self.new.is_heard ≡ self.old.is_heard }
         ensures epoch { self.new.epoch ≡ self.old.epoch }
         ensures serves { StillServes self.old.answers.shown.mirror.node screens.old screens.new }

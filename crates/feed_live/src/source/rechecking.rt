@@ -2,10 +2,12 @@
 //! other states. So a connection asks for the newest commit again, and that has to be what it was.
 //! Only commits that the relay holds may come before it. Else everything is asked for.
 
-ghost use Rattle.std.specs.Prelude.{◌≡◌, List, ℕ, IfSome, None};
+ghost use Rattle.std.specs.Prelude.{◌≡◌, ◌≢◌, ◌&&◌, List, ℕ, IfOk, IfSome, None, Some, false, true, not, is_some, is_none};
 ghost use Rattle.std.specs.Option.{option_copied};
+ghost use Rattle.feed_node.specs.States.{nothing_published};
 ghost use Rattle.feed_laws.specs.Follows.{MayAskWith};
 ghost use Rattle.feed_live.specs.Upstream.{asked_with};
+ghost use Rattle.feed_live.specs.Waiting.{brought};
 
 use crate::source::Source;
 use crate::source::reading::{given_twice, is_want_of_memory, line_or_part};
@@ -27,7 +29,9 @@ pub(crate) struct Again {
 }
 
 impl Again {
-    fn new(alloc: Global, limits: Limits) -> Result<Again, AllocError> {
+    fn new(alloc: Global, limits: Limits) -> Result<Again, AllocError>
+        ensures { IfOk result (λ again. again.mirror.node ≡ nothing_published) }
+    {
         let mirror = Mirror::new(alloc, few(limits))?;
         Ok(Again {
             follower: Follower::new(&mirror),
@@ -72,7 +76,10 @@ pub(crate) struct Rechecking {
 }
 
 impl Rechecking {
-    pub(crate) fn new(is_on: bool) -> Rechecking {
+    pub(crate) fn new(is_on: bool) -> Rechecking
+        ensures { result ≡ record { is_on = is_on; again = None; has_come = false;
+            asks_newest = false; is_doubted = false } }
+    {
         Rechecking {
             is_on,
             again: None,
@@ -83,7 +90,11 @@ impl Rechecking {
     }
 
     /// A connection begins, which brings this, or asks for everything.
-    pub(crate) fn begin(&mut self, again: Option<Again>, is_fresh: bool) {
+    pub(crate) fn begin(&mut self, again: Option<Again>, is_fresh: bool)
+        // a doubt is over once everything is asked for
+        ensures { self.new ≡ record { is_on = self.old.is_on; again = again; has_come = false;
+            asks_newest = false; is_doubted = self.old.is_doubted && not is_fresh } }
+    {
         self.is_doubted = self.is_doubted && !is_fresh;
         self.again = again;
         self.has_come = false;
@@ -91,34 +102,46 @@ impl Rechecking {
     }
 
     /// The connection is over.
-    pub(crate) fn leave(&mut self) {
+    pub(crate) fn leave(&mut self)
+        ensures { self.new ≡ record self.old { again = None; has_come = false } }
+    {
         self.again = None;
         self.has_come = false;
     }
 
     /// It failed: the next server is asked.
-    pub(crate) fn lose(&mut self) {
+    pub(crate) fn lose(&mut self)
+        ensures { self.new ≡ record self.old { asks_newest = false } }
+    {
         self.asks_newest = false;
     }
 
     /// Something was published.
-    pub(crate) fn trust(&mut self) {
+    pub(crate) fn trust(&mut self)
+        ensures { self.new ≡ record self.old { is_doubted = false } }
+    {
         self.is_doubted = false;
     }
 
     /// The server does not hold the token before the newest.
-    fn refuse(&mut self) {
+    fn refuse(&mut self)
+        ensures { self.new ≡ record self.old { again = None; asks_newest = true } }
+    {
         self.again = None;
         self.asks_newest = true;
     }
 
     /// Whether a server has another one, and nothing was published since then.
-    pub(crate) fn is_doubted(&self) -> bool {
+    pub(crate) fn is_doubted(&self) -> bool
+        ensures { result ≡ self.now.is_doubted }
+    {
         self.is_doubted
     }
 
     /// Whether the newest commit is still to come again.
-    pub(crate) fn is_going(&self) -> bool {
+    pub(crate) fn is_going(&self) -> bool
+        ensures { result ≡ is_some self.now.again }
+    {
         self.again.is_some()
     }
 }
@@ -133,7 +156,9 @@ enum Brought {
 }
 
 /// What this token is to a node, where one came.
-fn what_came(token: Option<&str>, node: &Node) -> Brought {
+fn what_came(token: Option<&str>, node: &Node) -> Brought
+    ensures { result ≡ brought (option_copied token.entry) node.now.shown }
+{
     let (Some(came), Some(newest)) = (token, node.token()) else {
         return Brought::Nothing;
     };
@@ -166,10 +191,15 @@ pub(crate) fn token_for<'a>(mirror: &'a Mirror, is_again: bool) -> Option<&'a st
 
 impl Source {
     ghost use Rattle.feed_live.specs.Relaying.{StillFollows, SameSource, WasLeft, within_turn};
+    ghost use Rattle.feed_live.specs.Waiting.{is_past, is_to_recheck, newest_time};
     ghost use Rattle.feed_live.specs.declared.source.Reach.TheVariants.{Away, Reads as Read};
 
     /// What the next connection is to bring, where it asks for the newest commit again.
-    pub(crate) fn begin_again(&self, alloc: Global) -> Result<Option<Again>, AllocError> {
+    pub(crate) fn begin_again(&self, alloc: Global) -> Result<Option<Again>, AllocError>
+        ensures made { IfOk result (λ made. is_some made ≡ is_to_recheck self.now) }
+        ensures blank { IfOk result (λ made. IfSome made (λ again.
+            again.mirror.node ≡ nothing_published)) }
+    {
         let shown = self.answers.shown.mirror();
         if !self.rechecking.is_on || self.rechecking.asks_newest || self.is_always_fresh() {
             return Ok(None);
@@ -233,7 +263,9 @@ impl Source {
 
     /// When a server is asked with the newest token that was asked for that commit again, and sent
     /// nothing: requests wait for it.
-    pub(crate) fn newest_at(&self) -> Option<u64> {
+    pub(crate) fn newest_at(&self) -> Option<u64>
+        ensures { result ≡ newest_time self.now }
+    {
         if self.is_heard || !self.rechecking.is_going() {
             return None;
         }
@@ -241,7 +273,9 @@ impl Source {
     }
 
     /// Whether it is time for that.
-    pub(crate) fn is_to_ask_newest(&self, now: u64) -> bool {
+    pub(crate) fn is_to_ask_newest(&self, now: u64) -> bool
+        ensures { result ≡ is_past (newest_time self.now) now }
+    {
         match self.newest_at() {
             Some(at) => at <= now,
             None => false,
@@ -251,6 +285,7 @@ impl Source {
     /// A server does not hold the token before the newest: it is asked with the newest.
     pub(crate) fn ask_newest<L: Link>(&mut self, link: &mut L, now: u64)
         ensures left { WasLeft self.old self.new (L.exchanges link.old) (L.exchanges link.new) }
+        ensures calls { L.begun link.new ≡ L.begun link.old }
         ensures at_once { self.new.upstream.since ≡ now }
     {
         self.rechecking.refuse();

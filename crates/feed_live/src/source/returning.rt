@@ -3,7 +3,8 @@
 //! token: whoever has something new is followed then. That costs screens nothing. Where nobody has,
 //! the first one is followed for longer, until the next round.
 
-ghost use Rattle.std.specs.Prelude.{◌≡◌, ◌+◌, ◌%◌, min};
+ghost use Rattle.std.specs.Prelude.{◌≡◌, ◌+◌, ◌%◌, min, nat_lt, if◌then◌else◌, not, false, true};
+ghost use Rattle.feed_live.specs.Waiting.{has_left_quiet, is_past, quiet_at, quiet_time};
 
 use crate::source::{Reach, Source};
 use crate::times::ROUND_TIME;
@@ -31,7 +32,10 @@ pub(crate) struct Returning {
 }
 
 impl Returning {
-    pub(crate) fn new(after: u64, now: u64) -> Returning {
+    pub(crate) fn new(after: u64, now: u64) -> Returning
+        ensures { result ≡ record { after = after; published = now; left_quiet = 0;
+            was_reported = false } }
+    {
         Returning {
             after,
             published: now,
@@ -41,14 +45,20 @@ impl Returning {
     }
 
     /// Something was published.
-    pub(crate) fn publish(&mut self, now: u64) {
+    pub(crate) fn publish(&mut self, now: u64)
+        ensures { self.new ≡ record self.old { published = now; left_quiet = 0 } }
+    {
         self.published = now;
         self.left_quiet = 0;
     }
 
     /// One of so many servers is left for having nothing new: the first one of a round, where each
     /// was. Whether that is to be reported: not where it was, and none was lost since then.
-    fn leave_quiet(&mut self, servers: usize) -> bool {
+    fn leave_quiet(&mut self, servers: usize) -> bool
+        ensures reported { result ≡ not self.old.was_reported }
+        ensures counts { self.new ≡ record self.old { was_reported = true; left_quiet =
+            if nat_lt self.old.left_quiet servers then self.old.left_quiet + 1 else 1 } }
+    {
         self.left_quiet = if self.left_quiet < servers {
             self.left_quiet.saturating_add(1)
         } else {
@@ -58,13 +68,17 @@ impl Returning {
     }
 
     /// Whether a server was left for having nothing new.
-    pub(crate) fn has_left_quiet(&self) -> bool {
+    pub(crate) fn has_left_quiet(&self) -> bool
+        ensures { result ≡ has_left_quiet self.now }
+    {
         self.left_quiet > 0
     }
 
     /// For how many milliseconds a server is followed that has nothing new: the first one, or
     /// another; and whether all were left for that since something was published.
-    fn time(&self, is_first: bool, were_all_left: bool) -> u64 {
+    fn time(&self, is_first: bool, were_all_left: bool) -> u64
+        ensures { result ≡ quiet_time self.now is_first were_all_left }
+    {
         if were_all_left && is_first {
             self.after.saturating_mul(ROUNDS_APART)
         } else if self.has_left_quiet() && !were_all_left {
@@ -75,7 +89,9 @@ impl Returning {
     }
 
     /// A server was lost that was followed: what becomes of the others is news again.
-    pub(crate) fn lose(&mut self) {
+    pub(crate) fn lose(&mut self)
+        ensures { self.new ≡ record self.old { left_quiet = 0; was_reported = false } }
+    {
         self.left_quiet = 0;
         self.was_reported = false;
     }
@@ -86,7 +102,9 @@ impl Source {
 
     /// When a server is left that has nothing new, where there are others. Once all were left for
     /// that since something was published, the first one stays for longer.
-    pub(crate) fn returns_at(&self) -> Option<u64> {
+    pub(crate) fn returns_at(&self) -> Option<u64>
+        ensures { result ≡ quiet_at self.now self.now.reach }
+    {
         let since = self.body_since?;
         let is_first = self.upstream.place() == 0;
         let were_all_left = self.returning.left_quiet >= self.places.len();
@@ -104,7 +122,9 @@ impl Source {
     }
 
     /// Whether it is time for that.
-    pub(crate) fn is_to_leave_quiet(&self, now: u64) -> bool {
+    pub(crate) fn is_to_leave_quiet(&self, now: u64) -> bool
+        ensures { result ≡ is_past (quiet_at self.now self.now.reach) now }
+    {
         match self.returns_at() {
             Some(at) => at <= now,
             None => false,
@@ -115,6 +135,7 @@ impl Source {
     /// fail: the pauses stay as they are, and so does what is counted of failures.
     pub(crate) fn leave_quiet<L: Link>(&mut self, desk: &mut Desk, link: &mut L)
         ensures left { WasLeft self.old self.new (L.exchanges link.old) (L.exchanges link.new) }
+        ensures calls { L.begun link.new ≡ L.begun link.old }
         ensures next { self.new.upstream.place
             ≡ min (self.old.upstream.place + 1) u64.MAX % self.old.upstream.places }
         ensures at_once { self.new.upstream.since ≡ desk.old.time }

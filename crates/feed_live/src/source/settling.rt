@@ -2,7 +2,10 @@
 //! have a token on each line send all that ever happened, or all that there is, line by line. No
 //! state but the last one of that is to be shown.
 
-ghost use Rattle.std.specs.Prelude.{◌≡◌, ◌<◌, None, IfOk, IfSome, is_none, option_map, if◌then◌else◌, is_some};
+ghost use Rattle.std.specs.Prelude.{◌≡◌, ◌<◌, ◌≤◌, ◌&&◌, None, Some, IfOk, IfSome, not, is_none, option_map, if◌then◌else◌, is_some, false, true};
+ghost use Rattle.feed_hub.specs.Upstream.{later};
+ghost use Rattle.feed_node.specs.States.{published_token};
+ghost use Rattle.feed_live.specs.Afresh.{goes_on_from, has_come, have_one_token, holds_it, is_at_shown};
 ghost use Rattle.feed_device.specs.Links.{shown_so, all_from};
 ghost use Rattle.feed_node.specs.Mirroring.{new_mirror};
 ghost use Rattle.feed_live.specs.Relaying.{following_mirror};
@@ -58,7 +61,11 @@ pub(crate) struct Settling {
 
 impl Settling {
     pub(crate) fn new(pause: u64, is_always: bool, is_strange: bool) -> Settling
-        ensures { (result.pause ≡ pause) × (result.is_always ≡ is_always) }
+        ensures set { (result.pause ≡ pause) × (result.is_always ≡ is_always)
+            × (result.is_strange ≡ is_strange) }
+        ensures nothing { (result.is_begun ≡ false) × (result.bytes ≡ 0) × (result.lines ≡ 0)
+            × (result.is_within ≡ false) × (result.is_compared ≡ false)
+            × (result.is_same ≡ false) × (result.was_alone ≡ false) }
     {
         Settling {
             pause,
@@ -78,7 +85,15 @@ impl Settling {
     }
 
     /// A connection begins.
-    pub(crate) fn begin(&mut self, now: u64) {
+    pub(crate) fn begin(&mut self, now: u64)
+        ensures set { (self.new.pause ≡ self.old.pause) × (self.new.is_always ≡ self.old.is_always)
+            × (self.new.is_strange ≡ self.old.is_strange)
+            × (self.new.was_alone ≡ self.old.was_alone) }
+        ensures times { (self.new.began ≡ now) × (self.new.reported ≡ now) }
+        ensures nothing { (self.new.is_begun ≡ false) × (self.new.bytes ≡ 0)
+            × (self.new.lines ≡ 0) × (self.new.is_within ≡ false)
+            × (self.new.is_compared ≡ false) × (self.new.is_same ≡ false) }
+    {
         *self = Settling {
             began: now,
             reported: now,
@@ -88,7 +103,12 @@ impl Settling {
     }
 
     /// So many bytes came.
-    pub(crate) fn hear(&mut self, count: usize, now: u64) {
+    pub(crate) fn hear(&mut self, count: usize, now: u64)
+        // the longest time is counted from the first byte on
+        ensures { self.new ≡ record self.old { rate = self.new.rate; is_begun = true;
+            began = if self.old.is_begun then self.old.began else now;
+            bytes = later self.old.bytes count } }
+    {
         if !self.is_begun {
             self.is_begun = true;
             self.began = now;
@@ -100,12 +120,16 @@ impl Settling {
     }
 
     /// A server goes on from the token that is shown.
-    pub(crate) fn go_on(&mut self) {
+    pub(crate) fn go_on(&mut self)
+        ensures { self.new ≡ record self.old { was_alone = false } }
+    {
         self.was_alone = false;
     }
 
     /// A line came whole.
-    pub(crate) fn count_line(&mut self) {
+    pub(crate) fn count_line(&mut self)
+        ensures { self.new ≡ record self.old { lines = later self.old.lines 1 } }
+    {
         self.lines = self.lines.saturating_add(1);
     }
 
@@ -118,12 +142,16 @@ impl Settling {
     }
 
     /// How many lines came.
-    pub(crate) fn lines(&self) -> u64 {
+    pub(crate) fn lines(&self) -> u64
+        ensures { result ≡ self.now.lines }
+    {
         self.lines
     }
 
     /// When all that came has settled, if nothing more comes.
-    fn calm_at(&self) -> u64 {
+    fn calm_at(&self) -> u64
+        ensures { self.now.pause ≡ 0 → result ≡ 0 }
+    {
         if self.pause == 0 {
             0
         } else {
@@ -132,7 +160,9 @@ impl Settling {
     }
 
     /// When it is shown as far as it has come.
-    fn late_at(&self) -> u64 {
+    fn late_at(&self) -> u64
+        ensures { result ≡ later self.now.began 600000 }
+    {
         self.began.saturating_add(LONGEST_REPLAY)
     }
 }
@@ -159,7 +189,9 @@ pub(crate) fn begin_shown<L: Link>(link: &mut L, coming: &Option<Mirror>)
 }
 
 /// Whether both publish at the same token.
-fn are_at_one(one: &Node, other: &Node) -> bool {
+fn are_at_one(one: &Node, other: &Node) -> bool
+    ensures { result ≡ have_one_token one.now.shown other.now.shown }
+{
     match (one.token(), other.token()) {
         (Some(one), Some(other)) => one.text() == other.text(),
         _ => false,
@@ -238,7 +270,12 @@ impl Source {
     }
 
     /// When what comes afresh has settled, if nothing more comes until then.
-    pub(crate) fn settles_at(&self) -> Option<u64> {
+    pub(crate) fn settles_at(&self) -> Option<u64>
+        // never where nothing comes afresh, or that has published nothing; else in ten minutes
+        ensures none { has_come self.now.coming ≡ false → result ≡ None }
+        ensures shown { is_at_shown self.now ≡ true → result ≡ None }
+        ensures late { IfSome result (λ at. at ≤ later self.now.settling.began 600000) }
+    {
         // It has published.
         self.coming.as_ref()?.since()?;
         if self.is_at_shown() {
@@ -252,7 +289,10 @@ impl Source {
     }
 
     /// When it is reported the next time how much has come.
-    pub(crate) fn reports_at(&self) -> Option<u64> {
+    pub(crate) fn reports_at(&self) -> Option<u64>
+        ensures { result ≡ (if is_some self.now.coming && not (is_at_shown self.now)
+            then Some (later self.now.settling.reported 30000) else None) }
+    {
         self.coming.as_ref()?;
         if self.is_at_shown() {
             return None;
@@ -261,7 +301,10 @@ impl Source {
     }
 
     /// How many lines and bytes came of what has not settled yet.
-    pub(crate) fn come(&self) -> (u64, u64) {
+    pub(crate) fn come(&self) -> (u64, u64)
+        ensures { result ≡ (if is_some self.now.coming && not (is_at_shown self.now)
+            then (self.now.settling.lines, self.now.settling.bytes) else (0, 0)) }
+    {
         match self.coming {
             Some(_) if !self.is_at_shown() => (self.settling.lines, self.settling.bytes),
             _ => (0, 0),
@@ -309,7 +352,9 @@ impl Source {
     /// Whether a server with tokens of its own came to the state and the token that are shown, and
     /// has nothing newer. It holds a token before that one, which screens may have for another
     /// state. With the next commit it holds that no more, and takes the place of what is shown.
-    fn is_at_shown(&self) -> bool {
+    fn is_at_shown(&self) -> bool
+        ensures { result ≡ is_at_shown self.now }
+    {
         match &self.coming {
             Some(coming) => {
                 let shown = self.answers.shown.node();
@@ -329,12 +374,16 @@ impl Source {
     }
 
     /// Whether each connection asks for everything.
-    pub(crate) fn is_always_fresh(&self) -> bool {
+    pub(crate) fn is_always_fresh(&self) -> bool
+        ensures { result ≡ self.now.settling.is_always }
+    {
         self.settling.is_always
     }
 
     /// Whether what comes afresh has published.
-    fn has_published(&self) -> bool {
+    fn has_published(&self) -> bool
+        ensures { result ≡ has_come self.now.coming }
+    {
         match &self.coming {
             Some(coming) => coming.since().is_some(),
             None => false,
@@ -363,12 +412,17 @@ impl Source {
     }
 
     /// Whether screens may go on from what is shown with what came afresh.
-    fn goes_on(&self) -> bool {
+    fn goes_on(&self) -> bool
+        ensures { result ≡ goes_on_from self.now }
+    {
         self.settling.is_same && self.holds_shown()
     }
 
     /// Whether what comes afresh holds the token that is shown.
-    fn holds_shown(&self) -> bool {
+    fn holds_shown(&self) -> bool
+        ensures { result ≡ holds_it self.now.coming
+            (published_token self.now.answers.shown.mirror.node) }
+    {
         match (&self.coming, self.answers.shown.node().token()) {
             (Some(coming), Some(token)) => coming.node().holds(token.text()),
             _ => false,

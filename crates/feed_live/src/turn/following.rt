@@ -2,7 +2,7 @@
 
 ghost use Rattle.std.specs.Prelude.{◌≡◌, ◌≢◌, ◌⊎◌, [], List, ℕ, ◌≤◌, Some, Contains, IfSome, is_some, false, true, None};
 ghost use Rattle.feed_node.specs.States.{NodeState};
-ghost use Rattle.feed_device.specs.Calls.{CalledAtLeastOnce};
+ghost use Rattle.feed_device.specs.Calls.{CalledOnce, CalledAtLeastOnce};
 ghost use Rattle.feed_device.specs.Files.{IsKnown};
 ghost use Rattle.feed_device.specs.Links.{Exchanges};
 ghost use Rattle.feed_device.specs.Sockets.{AllSockets};
@@ -12,7 +12,9 @@ use crate::turn::{Input, Live};
 use feed_device::{Link, Report, Store};
 
 impl Live {
-    ghost use Rattle.feed_live.specs.Relaying.{StillRelaying, OnlyServes, SameEnd};
+    ghost use Rattle.feed_live.specs.Relaying.{StillRelaying, OnlyServes, SameEnd, IsToConnect};
+    ghost use Rattle.feed_live.specs.Waiting.{BeginsOne, IsAtRest, IsLeft};
+    ghost use Rattle.feed_live.specs.declared.source.Reach.TheVariants.{Away};
     ghost use Rattle.feed_live.specs.Ending.{EndsWithInput};
     ghost use Rattle.feed_live.specs.Answering.{has_heard};
     ghost use Rattle.feed_screens.specs.Serving.{SaysAll, AllEnd};
@@ -30,6 +32,7 @@ impl Live {
             self.new.source.answers.shown.mirror.node self.old.desk.time }
         ensures serves { (sockets : AllSockets) → OnlyServes self.old self.new sockets sockets }
         ensures saved { SameBeside self.old self.new }
+        ensures desk { self.new.desk ≡ self.old.desk }
     {
         if self.screens.says_now(self.desk.time) {
             self.source.say_more(&self.desk, &mut self.screens);
@@ -46,6 +49,9 @@ impl Live {
             → StopsTaking self.old self.new (bytes_in input.entry) sockets }
         ensures saved { SameBeside self.old self.new }
         ensures ends { EndsWithInput self.old self.new input.entry }
+        // where it is no feed, only its end counts
+        ensures apart { self.old.feeds ≡ false → (self.new.source ≡ self.old.source)
+            × (self.new.desk.time ≡ self.old.desk.time) }
     {
         match input {
             Input::Nothing => self.feed(&[]),
@@ -63,6 +69,7 @@ impl Live {
         ensures stops { (sockets : AllSockets) → StopsTaking self.old self.new piece.now sockets }
         ensures saved { SameBeside self.old self.new }
         ensures ends { SameEnd self.old self.new }
+        ensures apart { self.old.feeds ≡ false → self.new ≡ self.old }
     {
         if self.feeds {
             self.feeds = self
@@ -85,6 +92,8 @@ impl Live {
         // then the bodies of all who follow are ended
         ensures bodies { self.old.limits.ends_with_input ≡ true → self.old.ends_at ≡ None
             → AllEnd self.new.screens.hub }
+        ensures apart { self.old.feeds ≡ false → (self.new.source ≡ self.old.source)
+            × (self.new.desk.time ≡ self.old.desk.time) }
     {
         if self.feeds {
             self.desk.reports.add(Report::EndOfInput);
@@ -108,6 +117,16 @@ impl Live {
             → self.new.screens.has_more ≡ true }
         ensures saved { SameBeside self.old self.new }
         ensures ends { SameEnd self.old self.new }
+        // where one is to be connected to, that is begun, once; or memory ran out, and the next
+        // place is asked after that
+        ensures begins { self.old.ends_at ≡ None → IsToConnect self.old.source self.old.desk.time
+            → BeginsOne (L.begun link.old) (L.begun link.new) self.old.source self.new.source
+            self.old.desk.time }
+        // one that is late or silent is left; the next one may be connected to at once
+        ensures leaves { self.old.ends_at ≡ None → self.old.source.places.items ≢ []
+            → IsLeft self.old.source self.old.limits.screens.idle self.old.desk.time
+            → CalledOnce (L.begun link.old) (L.begun link.new)
+            ⊎ (self.new.source.reach ≡ Away) }
     {
         if self.ends_at.is_some() || !self.source.has_servers() {
             return;
@@ -128,6 +147,8 @@ impl Live {
             (L.exchanges link.old) (L.exchanges link.new) sockets sockets }
         ensures saved { SameBeside self.old self.new }
         ensures ends { SameEnd self.old self.new }
+        ensures rests { IsAtRest self.old.source
+            → (self.new.source ≡ self.old.source) × (L.begun link.new ≡ L.begun link.old) }
     {
         if self.source.has_more() && self.screens.says_at().is_none() {
             self.source.go_on(&mut self.desk, link, &mut self.screens);
@@ -140,6 +161,8 @@ impl Live {
             (L.exchanges link.old) (L.exchanges link.new) sockets sockets }
         ensures saved { SameBeside self.old self.new }
         ensures ends { SameEnd self.old self.new }
+        ensures rests { IsAtRest self.old.source
+            → (self.new.source ≡ self.old.source) × (L.begun link.new ≡ L.begun link.old) }
     {
         self.source
             .settle_due(&mut self.desk, link, &mut self.screens);

@@ -17,6 +17,7 @@ returns g c =
       wakes = c.turn.ensures.wakes;
       says = c.turn.ensures.says;
       awake = c.turn.ensures.awake;
+      due = c.turn.ensures.due;
       ends = c.turn.ensures.ends;
       takes = c.turn.ensures.takes;
       over = c.turn.ensures.over;

@@ -1,6 +1,7 @@
 //! What came afresh is shown, once it has settled.
 
-ghost use Rattle.std.specs.Prelude.{◌≡◌, ℕ, List, length, None, IfOk};
+ghost use Rattle.std.specs.Prelude.{◌≡◌, ◌≢◌, ◌⊎◌, ◌&&◌, ◌||◌, ℕ, List, length, None, IfOk, false, true, not, is_some};
+ghost use Rattle.feed_live.specs.Afresh.{goes_on_from, has_come, is_at_shown};
 ghost use Rattle.feed_node.specs.Saved.{restored_from};
 
 use crate::source::{Reach, Source};
@@ -45,6 +46,9 @@ impl Source {
         ensures follows { StillFollows
             (within_turn (L.exchanges link.old) self.old self.old.rest.items screens.old)
             (within_turn (L.exchanges link.new) self.new self.new.rest.items screens.new) }
+        // nothing settles where no response is read
+        ensures stays { self.old.reach ≢ Read → (self.new ≡ self.old)
+            × (L.begun link.new ≡ L.begun link.old) }
     {
         if self.reach != Reach::Reads {
             return;
@@ -62,7 +66,9 @@ impl Source {
         }
     }
 
-    fn is_due_to_settle(&self, now: u64) -> bool {
+    fn is_due_to_settle(&self, now: u64) -> bool
+        ensures { has_come self.now.coming ≡ false ⊎ is_at_shown self.now ≡ true → result ≡ false }
+    {
         match self.settles_at() {
             Some(at) => at <= now,
             None => false,
@@ -184,7 +190,11 @@ impl Source {
 
     /// Whether what came afresh is to be shown at its own token alone. Once in a row: a server that
     /// does not go on from that token sends all of it again then.
-    fn is_alone(&self) -> bool {
+    fn is_alone(&self) -> bool
+        ensures { result ≡ (not (self.now.settling.was_alone) && not (goes_on_from self.now)
+            && (is_some self.now.answers.shown.mirror.since
+            || not self.now.settling.is_always)) }
+    {
         let is_over = self.answers.shown.mirror().since().is_some();
         let may_be = is_over || !self.settling.is_always;
         may_be && !self.settling.was_alone && !self.goes_on()
@@ -215,6 +225,7 @@ impl Source {
     /// What comes after the token that is shown is asked for, at the same server.
     pub(crate) fn ask_again<L: Link>(&mut self, link: &mut L, now: u64)
         ensures left { WasLeft self.old self.new (L.exchanges link.old) (L.exchanges link.new) }
+        ensures calls { L.begun link.new ≡ L.begun link.old }
         ensures at_once { self.new.upstream.since ≡ now }
     {
         self.leave(link, now);

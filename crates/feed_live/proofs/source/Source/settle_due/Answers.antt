@@ -7,12 +7,14 @@ use Rattle.feed_live.proofs.source.Source.settle_due.Goals as goal
 
 pub returns-then-not-is_due_to_settle : goal.returns-then-not-is_due_to_settle
 returns-then-not-is_due_to_settle g c =
+    let reads : c.args.self.now.reach ≡ Reads = search rules in
     record {
       follows = λ limits log servers contest sockets follows. (
         c.note_at_shown.ensures.servers ∙ c.report_coming.ensures.servers ∙ follows.0,
         with_same limits log servers c.note_at_shown.ensures _ _ _ c.note_at_shown.ensures.rest
             (with_same limits log servers c.report_coming.ensures _ _ _ c.report_coming.ensures.rest follows.1),
       );
+      stays = λ not. absurd (not reads);
     }
 
 pub returns-in-Some-Again : goal.returns-in-Some-Again
@@ -23,6 +25,7 @@ returns-in-Some-Again g c =
       follows = λ limits log servers contest sockets follows.
           let shows = c.settle.ensures.shows limits log servers contest sockets (to_show_of limits log servers c.args.self.now c.args.screens.now many (to_show limits log servers c.args.self.now c.args.screens.now _ c.args.self.now.rest.items reads follows)) in
           (c.ask_again.ensures.left.servers ∙ shows.0, with_left limits log servers c.ask_again.ensures.left c.ask_again.new.self.rest.items shows.1);
+      stays = λ not. absurd (not reads);
     }
 
 pub returns-in-Some-Memory : goal.returns-in-Some-Memory
@@ -33,6 +36,7 @@ returns-in-Some-Memory g c =
       follows = λ limits log servers contest sockets follows.
           let shows = c.settle.ensures.shows limits log servers contest sockets (to_show_of limits log servers c.args.self.now c.args.screens.now many (to_show limits log servers c.args.self.now c.args.screens.now _ c.args.self.now.rest.items reads follows)) in
           (c.lost.ensures.left.servers ∙ shows.0, with_left limits log servers c.lost.ensures.left c.lost.new.self.rest.items shows.1);
+      stays = λ not. absurd (not reads);
     }
 
 pub returns-in-None : goal.returns-in-None
@@ -43,4 +47,5 @@ returns-in-None g c =
       follows = λ limits log servers contest sockets follows.
           within (with_unread limits log servers (is_none c.settle.new.self.coming) _ c.settle.new.self.reach c.settle.new.self.request.items c.settle.new.self.upstream.follower (followed_by c.settle.new.self) (c.in-None.ensures.rest refl))
           (c.in-None.ensures.follows refl reads c.args.self.now.rest.items many limits log servers contest sockets follows);
+      stays = λ not. absurd (not reads);
     }

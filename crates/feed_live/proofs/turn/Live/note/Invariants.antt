@@ -1,3 +1,4 @@
+use Rattle.std.specs.Prelude.{◌≡◌}
 use Rattle.feed_device.specs.Sockets.{AllSockets}
 use Rattle.feed_live.specs.Relaying.{OnlyServes}
 use Rattle.feed_live.specs.Ending.{SameBeside}
@@ -8,4 +9,5 @@ invariant-loop-event l =
     record {
       serves : (sockets : AllSockets) → OnlyServes l.initial.self l.self sockets sockets;
       saved : SameBeside l.initial.self l.self;
+      desk : l.self.desk ≡ l.initial.self.desk;
     }

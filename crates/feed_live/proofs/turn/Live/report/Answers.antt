@@ -1,6 +1,6 @@
 use Rattle.std.proofs.Common.{refl}
 use Rattle.feed_screens.proofs.ServingLemmas.{serving_noted}
-use Rattle.feed_live.proofs.TurnLemmas.{same_none}
+use Rattle.feed_live.proofs.TurnLemmas.{same_none, waiting_none}
 use Rattle.feed_live.proofs.turn.Live.report.Goals as goal
 
 pub returns-in-Some-clause-serves : goal.returns-in-Some-clause-serves
@@ -10,6 +10,7 @@ returns-in-Some-clause-serves c =
       ends = (refl, refl);
       feeds = refl;
       source = same_none c.args.self.now.source;
+      waiting = waiting_none c.args.self.now.source;
       heard = refl;
       epoch = refl;
       serves = λ nodes shown blank serving. serving_noted c.report.ensures.same serving;

@@ -8,6 +8,7 @@ returns-then-says_now-clause-serves c =
       ends = (refl, refl);
       feeds = refl;
       source = c.say_more.ensures.same;
+      waiting = c.say_more.ensures.waits;
       heard = c.say_more.ensures.heard;
       epoch = c.say_more.ensures.epoch;
       serves = λ nodes shown blank. c.say_more.ensures.serves nodes _ sockets shown;

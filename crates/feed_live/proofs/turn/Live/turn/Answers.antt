@@ -4,8 +4,10 @@ use Rattle.feed_files.specs.Saved.{KeepsFiles}
 use Rattle.feed_live.specs.Ending.{SameBeside, SameSaved}
 use Rattle.feed_files.specs.Input.{StopsInput}
 use Rattle.feed_live.specs.Taking.{bytes_in}
+use Rattle.feed_live.specs.Relaying.{IsToConnect}
+use Rattle.feed_live.specs.Waiting.{IsLeft}
 use Rattle.feed_screens.proofs.ServingLemmas.{serving_noted}
-use Rattle.feed_live.proofs.TurnLemmas.{beside_then, serves_then, screens_only, relays_on, takes_only, takes_still, asked_then, goes_with}
+use Rattle.feed_live.proofs.TurnLemmas.{beside_then, serves_then, screens_only, relays_on, takes_only, takes_still, asked_then, goes_with, to_connect_same, left_same, begins_same, away_still}
 use Rattle.feed_screens.proofs.OwedLemmas.{owes_what_is_kept}
 use Rattle.feed_live.proofs.turn.Live.turn.Goals as goal
 
@@ -60,6 +62,21 @@ returns g c =
         sets = λ is some none. c.take_input.ensures.ends.sets is (ap (λ l. l.ends_with_input) said.ends.0 ∙ some) (sym (served.ends.1 ∙ c.follow.ensures.ends.1) ∙ none);
         stays = λ goes_on. served.ends.1 ∙ c.follow.ensures.ends.1 ∙ c.take_input.ensures.ends.stays (goes_with c.args.self.now c.say_more.new.self said.ends.0 goes_on) ∙ said.ends.1;
       };
+      begins = λ no_feed goes_on is.
+          let apart = c.take_input.ensures.apart (said.feeds ∙ no_feed) in
+          let time = apart.1 ∙ ap (λ d. d.time) (c.say_more.ensures.desk ∙ c.note.ensures.desk ∙ c.begin.ensures) in
+          begins_same c.args.self.now.source c.take_input.new.self.source c.follow.new.self.source c.next.new.self.source (ap (λ s. s.upstream) apart.0 ∙ said.waiting.upstream) served.waiting.upstream time
+          (c.follow.ensures.begins (sym (served.ends.1 ∙ c.follow.ensures.ends.1) ∙ goes_on)
+          (subst (λ t. IsToConnect c.take_input.new.self.source t) (sym time) (subst (λ s. IsToConnect s c.args.now) (sym apart.0) (to_connect_same said.waiting said.source is))));
+      leaves = λ no_feed goes_on some is.
+          let apart = c.take_input.ensures.apart (said.feeds ∙ no_feed) in
+          let time = apart.1 ∙ ap (λ d. d.time) (c.say_more.ensures.desk ∙ c.note.ensures.desk ∙ c.begin.ensures) in
+          let places = ap (λ s. s.places.items) apart.0 ∙ ap (λ s. s.places) said.source.servers in
+          away_still served.waiting.reach
+          (c.follow.ensures.leaves (sym (served.ends.1 ∙ c.follow.ensures.ends.1) ∙ goes_on) (λ none. some (sym places ∙ none))
+          (subst (λ l. IsLeft c.take_input.new.self.source l.screens.idle c.take_input.new.self.desk.time) (sym (c.take_input.ensures.ends.limits ∙ said.ends.0))
+          (subst (λ t. IsLeft c.take_input.new.self.source c.args.self.now.limits.screens.idle t) (sym time)
+          (subst (λ s. IsLeft s c.args.self.now.limits.screens.idle c.args.now) (sym apart.0) (left_same c.args.self.now.limits.screens.idle c.args.now said.waiting is)))));
       takes = c.next.ensures.takes;
       over = c.next.ensures.over;
     }

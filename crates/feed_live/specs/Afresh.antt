@@ -1,0 +1,43 @@
+-- What is known of what comes afresh, beside what is shown.
+use Rattle.std.specs.Prelude.{Bool, false, ◌&&◌, ℕ, List, bytes_eq, is_some, Option, Some, None}
+use Rattle.feed_node.specs.Mirroring.{MirrorState}
+use Rattle.feed_node.specs.States.{NodeState, published_token, holds_token}
+use Rattle.feed_live.specs.declared.source.Source.{Source}
+
+-- both are there, and the same
+abbrev pub are_one : Option (List ℕ) → Option (List ℕ) → Bool
+are_one (Some one) (Some other) = bytes_eq one other
+are_one (Some one) None = false
+are_one None other = false
+
+-- two nodes have published at one token
+abbrev pub have_one_token : NodeState → NodeState → Bool
+have_one_token one other = are_one (published_token one) (published_token other)
+
+-- what comes has published, which gave it a token to ask with
+abbrev pub has_come : Option MirrorState → Bool
+has_come None = false
+has_come (Some coming) = is_some coming.since
+
+-- what comes holds a token
+abbrev pub holds_it : Option MirrorState → Option (List ℕ) → Bool
+holds_it (Some coming) (Some token) = holds_token coming.node token
+holds_it (Some coming) None = false
+holds_it None token = false
+
+-- Screens may go on from what is shown with what comes: it had the same state at that token, and
+-- still holds it.
+abbrev pub goes_on_from : Source → Bool
+goes_on_from source =
+    source.settling.is_same
+    && holds_it source.coming (published_token source.answers.shown.mirror.node)
+
+abbrev pub token_that_came : Option MirrorState → Option (List ℕ)
+token_that_came None = None
+token_that_came (Some coming) = published_token coming.node
+
+-- What comes from a server with tokens of its own is at the state and the token that are shown.
+abbrev pub is_at_shown : Source → Bool
+is_at_shown source =
+    source.settling.is_strange && goes_on_from source
+    && are_one (token_that_came source.coming) (published_token source.answers.shown.mirror.node)
