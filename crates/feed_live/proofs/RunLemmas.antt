@@ -15,7 +15,9 @@ use Rattle.feed_live.specs.declared.turn.Input.{Input}
 use Rattle.feed_live.specs.declared.turn.Input.TheVariants.{Nothing, Bytes, End}
 use Rattle.feed_live.specs.declared.turn.Live.{Live}
 use Rattle.feed_live.specs.declared.turn.Turn.{Turn}
+use Rattle.feed_live.specs.Due.{IsDueInTime}
 use Rattle.feed_live.specs.Laws.{ShowsTheLog}
+use Rattle.feed_live.specs.Waiting.{LooksInTime, silent_at}
 use Rattle.feed_live.specs.Relaying.{IsRelaying, StillRelaying}
 use Rattle.feed_live.specs.Running.{InputSoFar, nothing_came, has_ended_by, came_on, came_more, HostCalls, waited_for, reported_once, Surroundings, surroundings, Moment, moment_of, node_at_moment, KeepsFilesAt, at_once, RunsFrom, IsRelayOver, IsTurn, IsSameRelay, IsRun, waited_at, calls_in, HasRun, servers_of_setup, AreUnused, AreAllFilesOfLog, BeginsAsSetUp, IsKnownHonestInput, EndsWithItsInput, TakesAllAt, EndsOrStops, TakesItsInput, KeepsToTheLog}
 use Rattle.feed_files.specs.Saved.{ArePartsOfRecords, KeepsFiles}
@@ -54,6 +56,24 @@ same_back same =
       reported = sym same.reported;
     }
 
+-- it is due in time, too
+still_due : {live after : Live} {now due : ℕ} → IsSameRelay live after → IsDueInTime live now due → IsDueInTime after now due
+still_due {live} {after} {now} {due} same is =
+    record {
+      saves = subst (λ files. IfSome files (λ saved. saved.has_more ≡ true → due ≤ now)) (sym same.saved) is.saves;
+      again = subst (λ files. IfSome files (λ saved. saved.has_more ≡ false → saved.is_failing ≡ true → due ≤ saved.retry_at)) (sym same.saved) is.again;
+      ends = subst (λ ends_at. IfSome ends_at (λ at. due ≤ at)) (sym same.ends_at) is.ends;
+      connects = λ goes_on none some.
+          subst (λ s. due ≤ s.upstream.since) (sym same.source)
+          (is.connects (sym same.ends_at ∙ goes_on) (subst (λ s. s.upstream.follower ≡ None) same.source none) (subst (λ s. s.places.items ≢ []) same.source some));
+      silent = λ goes_on follows some.
+          subst (λ limits. due ≤ silent_at after.source limits.screens.idle) (sym same.limits)
+          (subst (λ s. due ≤ silent_at s live.limits.screens.idle) (sym same.source)
+          (is.silent (sym same.ends_at ∙ goes_on) (subst (λ s. s.upstream.follower ≢ None) same.source follows) (subst (λ s. s.places.items ≢ []) same.source some)));
+      looks = λ goes_on some.
+          subst (λ s. LooksInTime s due) (sym same.source) (is.looks (sym same.ends_at ∙ goes_on) (subst (λ s. s.places.items ≢ []) same.source some));
+    }
+
 -- what was reported is forgotten behind a turn
 pub cleared : {old : Moment} {live after : Live} {next : Turn} {time : Option ℕ} {around : Surroundings} → IsTurn old (moment_of live next time around)
     → ((e : Exchanges) (s : AllSockets) → StillRelaying live after e e s s) → ((s : AllSockets) → StillTaking live after [] s s)
@@ -81,6 +101,7 @@ cleared {old} {live} {after} {next} {time} {around} turn relaying taking same =
           (turn.anew (λ is. newer (ap (λ s. s.epoch) same.source ∙ is)) nodes (subst (λ s. Contains nodes s.answers.shown.mirror.node) same.source has) known);
       wakes = λ more. turn.wakes (subst (λ s. s.has_more ≡ true) same.screens more);
       says = subst (λ screens. IfSome screens.saying.waits (λ at. turn.now ≤ at → next.due ≤ at)) (sym same.screens) turn.says;
+      due = still_due same turn.due;
       ends = record {
         limits = same.limits ∙ turn.ends.limits;
         sets = λ is some none. turn.ends.sets is some (sym same.ends_at ∙ none);

@@ -42,7 +42,7 @@ use Rattle.feed_live.proofs.RelayLemmas.{either, among_shown, among_blank, shows
 -- ---- only screens are served
 
 pub same_none : (source : Source) → SameSource source source
-same_none source = record { servers = refl; shown = refl; blank = refl; coming = refl; follower = refl; reach = refl; request = refl; rest = refl }
+same_none source = record { servers = refl; shown = refl; blank = refl; coming = refl; follower = refl; reach = refl; request = refl; rest = refl; opened = refl }
 
 pub waiting_none : (source : Source) → SameWaiting source source
 waiting_none source = record { upstream = refl; reach = refl; returning = refl; opened = refl; body_since = refl }
@@ -68,6 +68,7 @@ same_then two one =
       reach = two.reach ∙ one.reach;
       request = two.request ∙ one.request;
       rest = two.rest ∙ one.rest;
+      opened = two.opened ∙ one.opened;
     }
 
 -- ---- a server is waited for

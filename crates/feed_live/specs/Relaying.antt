@@ -212,7 +212,8 @@ StillRelaying old new before after sockets later =
     → IsRelaying limits log servers before old sockets
     → IsRelaying limits log servers after new later
 
--- nothing changed of what is followed and shown, nor of the servers that are asked
+-- nothing changed of what is followed and shown, nor of the servers that are asked, nor when the
+-- connection was begun
 pub record SameSource (old new : Source) : Type 0 where
   pub servers : servers_of new ≡ servers_of old
   pub shown : new.answers.shown.mirror ≡ old.answers.shown.mirror
@@ -222,6 +223,7 @@ pub record SameSource (old new : Source) : Type 0 where
   pub reach : new.reach ≡ old.reach
   pub request : new.request.items ≡ old.request.items
   pub rest : new.rest.items ≡ old.rest.items
+  pub opened : new.opened ≡ old.opened
 
 -- nothing changed of what a server is waited for, nor of which one is asked, and when
 pub record SameWaiting (old new : Source) : Type 0 where
@@ -249,6 +251,7 @@ pub record WasLeft (old new : Source) (before after : Exchanges) : Type 0 where
   pub limits : new.answers.shown.mirror.limits ≡ old.answers.shown.mirror.limits
   pub node : new.answers.shown.mirror.node ≡ old.answers.shown.mirror.node
   pub blank : new.answers.blank.mirror ≡ old.answers.blank.mirror
+  pub opened : new.opened ≡ old.opened
 
 -- there is no connection, and one to the place that is asked next is due
 pub record IsToConnect (source : Source) (now : ℕ) : Type 0 where

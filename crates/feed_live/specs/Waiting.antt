@@ -1,5 +1,5 @@
 -- For how long a relay waits for a server, and why it leaves one. All times are in milliseconds.
-use Rattle.std.specs.Prelude.{◌≡◌, ◌≢◌, ◌⊎◌, ℕ, ◌≤◌, ◌^◌, ◌-◌, ◌*◌, Bool, true, false, not, ◌&&◌, ◌||◌, ◌==◌, nat_eq, nat_lt, nat_le, bytes_eq, min, max, if◌then◌else◌, List, [], length, Option, Some, None, is_some, is_none, option_map, IfSome}
+use Rattle.std.specs.Prelude.{◌≡◌, ◌≢◌, ◌⊎◌, ℕ, ◌≤◌, ◌^◌, ◌-◌, ◌*◌, Bool, true, false, not, ◌&&◌, ◌||◌, nat_eq, nat_lt, nat_le, bytes_eq, min, max, if◌then◌else◌, List, length, Option, Some, None, is_some, is_none, option_map, IfSome}
 use Rattle.feed_device.specs.Calls.{CalledOnce}
 use Rattle.feed_device.specs.declared.report.Why.{Why}
 use Rattle.feed_device.specs.declared.report.Why.TheVariants.{Unknown, Refuses, Late, NoAnswer, Broke, Ended, Silent, Fault, Memory}

@@ -271,8 +271,8 @@ impl Live {
         // nothing but the end of its input sets an end to it
         ensures ends { EndsWithInput self.old self.new input.entry }
 
-        // where a server is to be connected to, that is begun, once; or memory ran out, and the next
-        // one is asked after that
+        // where a connection is due, it is begun, once; or memory ran out, and the next server is
+        // asked after that
         ensures begins { self.old.feeds ≡ false → self.new.ends_at ≡ None
             → IsToConnect self.old.source now
             → BeginsOne (L.begun devices.old.link) (L.begun devices.new.link)

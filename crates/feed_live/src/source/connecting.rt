@@ -1,6 +1,6 @@
 //! The connection to a server: it is begun, asked and left.
 
-ghost use Rattle.std.specs.Prelude.{◌≡◌, ◌≢◌, ◌<◌, ◌⊎◌, ◌||◌, ◌&&◌, ℕ, None, Some, Err, IfOk, IfSome, IsSome, drop, false, length, not, is_some};
+ghost use Rattle.std.specs.Prelude.{◌≡◌, ◌≢◌, ◌<◌, ◌⊎◌, ◌||◌, ◌&&◌, ℕ, None, Some, Err, IfOk, IfSome, IsSome, drop, false, true, length, not, is_some};
 ghost use Rattle.feed_device.specs.Calls.{CalledOnce};
 ghost use Rattle.feed_node.specs.States.{published_token};
 
@@ -18,7 +18,7 @@ use std::alloc::{AllocError, Global};
 impl Source {
     ghost use Rattle.feed_live.specs.Relaying.{StillFollows, SameSource, WasLeft, GoesOnTo, IsToConnect, servers_of, within_turn};
     ghost use Rattle.feed_live.specs.Upstream.{IsRequestOf, IsRequestWith, asked_with};
-    ghost use Rattle.feed_live.specs.Waiting.{connect_time, has_left_quiet, heard_time, is_end, is_past, late_time, why_late, why_left, LeavesLate, IsLeft, IsToStay, IsAtRest};
+    ghost use Rattle.feed_live.specs.Waiting.{connect_time, has_left_quiet, heard_time, is_end, is_past, late_time, quiet_at, why_late, why_left, LeavesLate, IsLeft, IsToStay, IsAtRest};
     ghost use Rattle.feed_live.specs.declared.source.Reach.TheVariants.{Away, Connects as Connecting, Asks as Asked};
     ghost use Rattle.feed_screens.specs.declared.screens.Screens.{Screens};
 
@@ -98,6 +98,10 @@ impl Source {
         ensures leaves { LeavesLate self.old self.new idle desk.old.time }
         // one that is neither, and not to be left for anything else, is followed on
         ensures stays { IsToStay self.old idle desk.old.time → self.new ≡ self.old }
+        // one that has nothing new for long is left, and another one is asked at once
+        ensures quiet { self.old.reach ≢ Away → why_left self.old idle desk.old.time ≡ None
+            → is_past (quiet_at self.old self.old.reach) desk.old.time ≡ true
+            → (self.new.reach ≡ Away) × (self.new.upstream.since ≡ desk.old.time) }
         ensures calls { L.begun link.new ≡ L.begun link.old }
     {
         if self.reach == Reach::Away {

@@ -117,8 +117,8 @@ impl Live {
             → self.new.screens.has_more ≡ true }
         ensures saved { SameBeside self.old self.new }
         ensures ends { SameEnd self.old self.new }
-        // where one is to be connected to, that is begun, once; or memory ran out, and the next
-        // place is asked after that
+        // where a connection is due, it is begun, once; or memory ran out, and the next place is
+        // asked after that
         ensures begins { self.old.ends_at ≡ None → IsToConnect self.old.source self.old.desk.time
             → BeginsOne (L.begun link.old) (L.begun link.new) self.old.source self.new.source
             self.old.desk.time }

@@ -9,7 +9,7 @@ returns-clause-serves g c =
       contest = refl;
       ends = (refl, refl);
       feeds = refl;
-      source = record { servers = refl; shown = c.serve_more.ensures.mirrors.shown; blank = c.serve_more.ensures.mirrors.blank; coming = refl; follower = refl; reach = refl; request = refl; rest = refl };
+      source = record { servers = refl; shown = c.serve_more.ensures.mirrors.shown; blank = c.serve_more.ensures.mirrors.blank; coming = refl; follower = refl; reach = refl; request = refl; rest = refl; opened = refl };
       waiting = record { upstream = refl; reach = refl; returning = refl; opened = refl; body_since = refl };
       heard = refl;
       epoch = refl;
