@@ -77,8 +77,13 @@ pub(crate) struct Rechecking {
 
 impl Rechecking {
     pub(crate) fn new(is_on: bool) -> Rechecking
-        ensures { result ≡ record { is_on = is_on; again = None; has_come = false;
-            asks_newest = false; is_doubted = false } }
+        ensures { result ≡ record {
+          is_on = is_on;
+          again = None;
+          has_come = false;
+          asks_newest = false;
+          is_doubted = false;
+        } }
     {
         Rechecking {
             is_on,
@@ -92,8 +97,13 @@ impl Rechecking {
     /// A connection begins, which brings this, or asks for everything.
     pub(crate) fn begin(&mut self, again: Option<Again>, is_fresh: bool)
         // a doubt is over once everything is asked for
-        ensures { self.new ≡ record { is_on = self.old.is_on; again = again; has_come = false;
-            asks_newest = false; is_doubted = self.old.is_doubted && not is_fresh } }
+        ensures { self.new ≡ record {
+          is_on = self.old.is_on;
+          again = again;
+          has_come = false;
+          asks_newest = false;
+          is_doubted = self.old.is_doubted && not is_fresh;
+        } }
     {
         self.is_doubted = self.is_doubted && !is_fresh;
         self.again = again;

@@ -33,8 +33,12 @@ pub(crate) struct Returning {
 
 impl Returning {
     pub(crate) fn new(after: u64, now: u64) -> Returning
-        ensures { result ≡ record { after = after; published = now; left_quiet = 0;
-            was_reported = false } }
+        ensures { result ≡ record {
+          after = after;
+          published = now;
+          left_quiet = 0;
+          was_reported = false;
+        } }
     {
         Returning {
             after,
@@ -56,8 +60,11 @@ impl Returning {
     /// was. Whether that is to be reported: not where it was, and none was lost since then.
     fn leave_quiet(&mut self, servers: usize) -> bool
         ensures reported { result ≡ not self.old.was_reported }
-        ensures counts { self.new ≡ record self.old { was_reported = true; left_quiet =
-            if nat_lt self.old.left_quiet servers then self.old.left_quiet + 1 else 1 } }
+        ensures counts { self.new ≡ record self.old {
+          was_reported = true;
+          left_quiet =
+              if nat_lt self.old.left_quiet servers then self.old.left_quiet + 1 else 1;
+        } }
     {
         self.left_quiet = if self.left_quiet < servers {
             self.left_quiet.saturating_add(1)

@@ -105,9 +105,12 @@ impl Settling {
     /// So many bytes came.
     pub(crate) fn hear(&mut self, count: usize, now: u64)
         // the longest time is counted from the first byte on
-        ensures { self.new ≡ record self.old { rate = self.new.rate; is_begun = true;
-            began = if self.old.is_begun then self.old.began else now;
-            bytes = later self.old.bytes count } }
+        ensures { self.new ≡ record self.old {
+          rate = self.new.rate;
+          is_begun = true;
+          began = if self.old.is_begun then self.old.began else now;
+          bytes = later self.old.bytes count;
+        } }
     {
         if !self.is_begun {
             self.is_begun = true;
