@@ -2,7 +2,7 @@
 //! other states. So a connection asks for the newest commit again, and that has to be what it was.
 //! Only commits that the relay holds may come before it. Else everything is asked for.
 
-ghost use Rattle.std.specs.Prelude.{◌≡◌, ◌≢◌, ◌&&◌, List, ℕ, IfOk, IfSome, None, Some, false, true, not, is_some, is_none};
+ghost use Rattle.std.specs.Prelude.{◌≡◌, ◌&&◌, List, ℕ, IfOk, IfSome, None, Some, false, true, not, is_some, is_none};
 ghost use Rattle.std.specs.Option.{option_copied};
 ghost use Rattle.feed_node.specs.States.{nothing_published};
 ghost use Rattle.feed_laws.specs.Follows.{MayAskWith};
