@@ -17,7 +17,7 @@ use Rattle.feed_live.specs.declared.turn.Live.{Live}
 use Rattle.feed_live.specs.declared.turn.Turn.{Turn}
 use Rattle.feed_live.specs.Due.{IsDueInTime}
 use Rattle.feed_live.specs.Laws.{ShowsTheLog}
-use Rattle.feed_live.specs.Waiting.{LooksInTime, silent_at}
+use Rattle.feed_live.specs.Leaving.{LooksInTime, silent_at}
 use Rattle.feed_live.specs.Relaying.{IsRelaying, StillRelaying}
 use Rattle.feed_live.specs.Running.{InputSoFar, nothing_came, has_ended_by, came_on, came_more, HostCalls, waited_for, reported_once, Surroundings, surroundings, Moment, moment_of, node_at_moment, KeepsFilesAt, at_once, RunsFrom, IsRelayOver, IsTurn, IsSameRelay, IsRun, waited_at, calls_in, HasRun, servers_of_setup, AreUnused, AreAllFilesOfLog, BeginsAsSetUp, IsKnownHonestInput, EndsWithItsInput, TakesAllAt, EndsOrStops, TakesItsInput, KeepsToTheLog}
 use Rattle.feed_files.specs.Saved.{ArePartsOfRecords, KeepsFiles}
@@ -70,6 +70,9 @@ still_due {live} {after} {now} {due} same is =
           subst (λ limits. due ≤ silent_at after.source limits.screens.idle) (sym same.limits)
           (subst (λ s. due ≤ silent_at s live.limits.screens.idle) (sym same.source)
           (is.silent (sym same.ends_at ∙ goes_on) (subst (λ s. s.upstream.follower ≢ None) same.source follows) (subst (λ s. s.places.items ≢ []) same.source some)));
+      more = λ goes_on some more none.
+          is.more (sym same.ends_at ∙ goes_on) (subst (λ s. s.places.items ≢ []) same.source some) (subst (λ s. s.has_more ≡ true) same.source more)
+          (subst (λ screens. screens.saying.waits ≡ None) same.screens none);
       looks = λ goes_on some.
           subst (λ s. LooksInTime s due) (sym same.source) (is.looks (sym same.ends_at ∙ goes_on) (subst (λ s. s.places.items ≢ []) same.source some));
     }

@@ -15,7 +15,7 @@ use Rattle.feed_live.specs.declared.source.Reach.TheVariants.{Connects, Asks}
 use Rattle.feed_live.specs.declared.source.Source.{Source}
 use Rattle.feed_live.specs.Relaying.{pursuit, MayFollow, WasLeft, StillFollows, within_turn}
 use Rattle.feed_live.specs.Upstream.{Servers, AreKnownHonest}
-use Rattle.feed_live.specs.Waiting.{IsBy}
+use Rattle.feed_live.specs.Leaving.{IsBy}
 use Rattle.feed_live.proofs.RelayLemmas.{with_left, opens_follows}
 
 -- the server was left

@@ -19,7 +19,7 @@ use Rattle.feed_screens.specs.declared.screens.Screens.{Screens}
 use Rattle.feed_live.specs.declared.source.Reach.{Reach}
 use Rattle.feed_live.specs.declared.source.Reach.TheVariants.{Away}
 use Rattle.feed_live.specs.declared.source.returning.Returning.{Returning}
-use Rattle.feed_live.specs.Waiting.{BeginsOne, IsLeft, is_past, late_at, why_late, why_left}
+use Rattle.feed_live.specs.Leaving.{BeginsOne, IsToLeave, is_past, late_at, why_late, why_left}
 use Rattle.feed_device.specs.declared.report.Why.{Why}
 use Rattle.feed_device.specs.declared.report.Why.TheVariants.{Silent}
 use Rattle.feed_hub.specs.Upstream.{later}
@@ -99,7 +99,7 @@ why_same {a} {b} idle now waiting =
     ∙ ap (λ o. why_by a.upstream a.reach a.returning o b.body_since idle now) waiting.opened
     ∙ ap (λ s. why_by a.upstream a.reach a.returning a.opened s idle now) waiting.body_since
 
-pub left_same : {a b : Source} (idle now : ℕ) → SameWaiting a b → IsLeft a idle now → IsLeft b idle now
+pub left_same : {a b : Source} (idle now : ℕ) → SameWaiting a b → IsToLeave a idle now → IsToLeave b idle now
 left_same {a} {b} idle now waiting is =
     (λ away. is.0 (sym waiting.reach ∙ away), λ none. is.1 (sym (why_same idle now waiting) ∙ none))
 

@@ -11,5 +11,5 @@ pub mod Ending
 pub mod Telling
 pub mod Examples
 pub mod Running
-pub mod Waiting
+pub mod Leaving
 pub mod Afresh

@@ -242,7 +242,8 @@ pub record SameButUnread (old new : Source) : Type 0 where
   pub reach : new.reach ≡ old.reach
   pub request : new.request ≡ old.request
 
--- the server was left: no response is followed, and what is shown stays
+-- The server was left: no response is followed, and none has a head. What is shown stays, and so does
+-- when the connection was begun.
 pub record WasLeft (old new : Source) (before after : Exchanges) : Type 0 where
   pub servers : servers_of new ≡ servers_of old
   pub exchanges : after ≡ before
@@ -252,6 +253,7 @@ pub record WasLeft (old new : Source) (before after : Exchanges) : Type 0 where
   pub node : new.answers.shown.mirror.node ≡ old.answers.shown.mirror.node
   pub blank : new.answers.blank.mirror ≡ old.answers.blank.mirror
   pub opened : new.opened ≡ old.opened
+  pub body_since : new.body_since ≡ None
 
 -- there is no connection, and one to the place that is asked next is due
 pub record IsToConnect (source : Source) (now : ℕ) : Type 0 where
@@ -263,7 +265,8 @@ pub record IsToConnect (source : Source) (now : ℕ) : Type 0 where
 -- the next place is asked, at once or after a pause
 abbrev pub GoesOn : Upstream → Upstream → ℕ → Type 0
 GoesOn old new now =
-    (new.place ≡ next_place old.place old.places)
+    (new.places ≡ old.places)
+    × (new.place ≡ next_place old.place old.places)
     × (new.failed ≡ counted_on old.failed old.places)
     × (new.since ≡ asked_next (next_place old.place old.places) (later old.began 1000) old.failed
     old.places now old.pause)

@@ -1,8 +1,8 @@
 //! The server that is followed, and the mirror of what it sends.
 
-ghost use Rattle.std.specs.Prelude.{◌≡◌, ◌≢◌, ◌<◌, ◌≤◌, ◌⊎◌, [], None, Some, false, true};
+ghost use Rattle.std.specs.Prelude.{◌≡◌, ◌≢◌, ◌<◌, ◌≤◌, ◌⊎◌, [], None, Some, false, true, length, max};
 ghost use Rattle.feed_hub.specs.Upstream.{later};
-ghost use Rattle.feed_live.specs.Waiting.{LooksInTime, IsBy, heard_time};
+ghost use Rattle.feed_live.specs.Leaving.{LooksInTime, IsBy, heard_time};
 
 mod connecting;
 mod input;
@@ -136,6 +136,8 @@ impl Source {
         ensures settles { (result.settling.pause ≡ limits.settle)
             × (result.settling.is_always ≡ limits.is_fresh) }
         ensures due { result.upstream.since ≡ desk.now.time }
+        // each of them has its turn
+        ensures round { result.upstream.places ≡ max (length places.items) 1 }
         // what was restored is not shown before a server was heard, unless it is to be at once
         ensures heard { mirror.node.published ≢ None → places.items ≢ []
             → limits.serves_old ≡ false → result.is_heard ≡ false }

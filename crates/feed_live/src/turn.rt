@@ -1,6 +1,6 @@
 //! The turn.
 
-ghost use Rattle.std.specs.Prelude.{◌≡◌, ◌≢◌, ◌≤◌, ◌+◌, ◌-◌, ◌^◌, ◌⊎◌, ◌↔◌, ◌&&◌, [], List, ℕ, min, None, Some, Contains, IfSome, is_none, is_some, false, true};
+ghost use Rattle.std.specs.Prelude.{◌≡◌, ◌≢◌, ◌≤◌, ◌+◌, ◌-◌, ◌^◌, ◌⊎◌, ◌↔◌, ◌&&◌, [], List, ℕ, length, max, min, None, Some, Contains, IfSome, is_none, is_some, false, true};
 ghost use Rattle.feed_settings.specs.Limits.{Limits};
 ghost use Rattle.feed_node.specs.States.{NodeState};
 ghost use Rattle.feed_world.specs.Log.{Log};
@@ -75,7 +75,7 @@ pub struct Live {
 
 impl Live {
     ghost use Rattle.feed_live.specs.Relaying.{IsRelaying, IsToConnect, StillRelaying, OnlyServes};
-    ghost use Rattle.feed_live.specs.Waiting.{BeginsOne, IsLeft};
+    ghost use Rattle.feed_live.specs.Leaving.{BeginsOne, IsToLeave};
     ghost use Rattle.feed_live.specs.declared.source.Reach.TheVariants.{Away};
     ghost use Rattle.feed_live.specs.Taking.{IsTakingInput, StillTaking, StopsTaking, bytes_in};
     ghost use Rattle.feed_live.specs.Ending.{SameBeside, SameSaved};
@@ -130,8 +130,10 @@ impl Live {
         // what was restored answers nobody before a server was heard, unless it is to at once
         ensures heard { start.restored.mirror.node.published ≢ None → start.places.items ≢ []
             → limits.serves_old ≡ false → result.source.is_heard ≡ false }
-        // it may connect at once, and shows what came afresh once that has settled
+        // it may connect at once, to each server in turn, and shows what came afresh once that has
+        // settled
         ensures connects { result.source.upstream.since ≡ now }
+        ensures round { result.source.upstream.places ≡ max (length start.places.items) 1 }
         ensures settles { (result.source.settling.pause ≡ limits.settle)
             × (result.source.settling.is_always ≡ limits.is_fresh) }
     {
@@ -254,7 +256,8 @@ impl Live {
         ensures awake { result.due ≤ min (self.new.reported + 60000) (2 ^ 64 - 1) }
         ensures reported { (self.new.reported ≡ self.old.reported) ⊎ (self.new.reported ≡ now) }
 
-        // where a state file is to be written, a server to be asked, or the end comes, then
+        // where a state file is to be written, a server to be asked, read or left, or the end comes,
+        // then
         ensures due { IsDueInTime self.new now result.due }
 
         // it has state files where it had them
@@ -281,7 +284,7 @@ impl Live {
         // one that is late or silent is left; the next one may be connected to at once
         ensures leaves { self.old.feeds ≡ false → self.new.ends_at ≡ None
             → self.old.source.places.items ≢ []
-            → IsLeft self.old.source self.old.limits.screens.idle now
+            → IsToLeave self.old.source self.old.limits.screens.idle now
             → CalledOnce (L.begun devices.old.link) (L.begun devices.new.link)
             ⊎ (self.new.source.reach ≡ Away) }
 

@@ -1,6 +1,6 @@
 //! The connection to a server: it is begun, asked and left.
 
-ghost use Rattle.std.specs.Prelude.{◌≡◌, ◌≢◌, ◌<◌, ◌⊎◌, ◌||◌, ◌&&◌, ℕ, None, Some, Err, IfOk, IfSome, IsSome, drop, false, true, length, not, is_some};
+ghost use Rattle.std.specs.Prelude.{◌≡◌, ◌≢◌, ◌<◌, ◌⊎◌, ◌+◌, ◌%◌, ◌||◌, ◌&&◌, min, None, Some, Err, IfOk, IfSome, IsSome, drop, false, true, length, not, is_some};
 ghost use Rattle.feed_device.specs.Calls.{CalledOnce};
 ghost use Rattle.feed_node.specs.States.{published_token};
 
@@ -16,9 +16,9 @@ use feed_screens::Screens;
 use std::alloc::{AllocError, Global};
 
 impl Source {
-    ghost use Rattle.feed_live.specs.Relaying.{StillFollows, SameSource, WasLeft, GoesOnTo, IsToConnect, servers_of, within_turn};
+    ghost use Rattle.feed_live.specs.Relaying.{StillFollows, SameSource, SameWaiting, WasLeft, GoesOnTo, IsToConnect, servers_of, within_turn};
     ghost use Rattle.feed_live.specs.Upstream.{IsRequestOf, IsRequestWith, asked_with};
-    ghost use Rattle.feed_live.specs.Waiting.{connect_time, has_left_quiet, heard_time, is_end, is_past, late_time, quiet_at, why_late, why_left, LeavesLate, IsLeft, IsToStay, IsAtRest};
+    ghost use Rattle.feed_live.specs.Leaving.{connect_time, has_left_quiet, heard_time, is_end, is_past, late_time, newest_time, quiet_at, why_late, why_left, LeavesLate, IsToLeave, IsToStay, IsAtRest};
     ghost use Rattle.feed_live.specs.declared.source.Reach.TheVariants.{Away, Connects as Connecting, Asks as Asked};
     ghost use Rattle.feed_screens.specs.declared.screens.Screens.{Screens};
 
@@ -70,13 +70,18 @@ impl Source {
             → CalledOnce (L.begun link.old) (L.begun link.new)
             ⊎ ((L.begun link.new ≡ L.begun link.old) × GoesOnTo self.old self.new desk.old.time) }
         // one that is late or silent is left; the next one may be connected to at once
-        ensures leaves { IsLeft self.old idle desk.old.time
+        ensures leaves { IsToLeave self.old idle desk.old.time
             → CalledOnce (L.begun link.old) (L.begun link.new) ⊎ (self.new.reach ≡ Away) }
         // one that is neither, and not to be left for anything else, is followed on
         ensures stays { self.old.reach ≢ Away → IsToStay self.old idle desk.old.time
-            → SameSource self.old self.new × (L.begun link.new ≡ L.begun link.old) }
-        // where there was no connection, or it was left, there is nothing to read yet
-        ensures rests { IsToConnect self.old desk.old.time ⊎ IsLeft self.old idle desk.old.time
+            → SameSource self.old self.new × SameWaiting self.old self.new
+            × (L.begun link.new ≡ L.begun link.old) }
+        // where there is no connection, and none is due yet, none is begun
+        ensures pauses { self.old.reach ≡ Away → desk.old.time < self.old.upstream.since
+            → SameSource self.old self.new × SameWaiting self.old self.new
+            × (self.new.has_more ≡ self.old.has_more) × (L.begun link.new ≡ L.begun link.old) }
+        // where one is due, or was left, there is nothing to read yet
+        ensures rests { IsToConnect self.old desk.old.time ⊎ IsToLeave self.old idle desk.old.time
             → IsAtRest self.new }
     {
         self.leave_due(desk, link, idle);
@@ -98,9 +103,16 @@ impl Source {
         ensures leaves { LeavesLate self.old self.new idle desk.old.time }
         // one that is neither, and not to be left for anything else, is followed on
         ensures stays { IsToStay self.old idle desk.old.time → self.new ≡ self.old }
-        // one that has nothing new for long is left, and another one is asked at once
+        // one that has nothing new for long is left, and the next one is asked at once
         ensures quiet { self.old.reach ≢ Away → why_left self.old idle desk.old.time ≡ None
             → is_past (quiet_at self.old self.old.reach) desk.old.time ≡ true
+            → (self.new.reach ≡ Away) × (self.new.upstream.since ≡ desk.old.time)
+            × (self.new.upstream.place
+            ≡ min (self.old.upstream.place + 1) u64.MAX % self.old.upstream.places) }
+        // one that was asked for the newest commit again, and sent nothing of it, is asked again
+        ensures newest { self.old.reach ≢ Away → why_left self.old idle desk.old.time ≡ None
+            → is_past (quiet_at self.old self.old.reach) desk.old.time ≡ false
+            → is_past (newest_time self.old) desk.old.time ≡ true
             → (self.new.reach ≡ Away) × (self.new.upstream.since ≡ desk.old.time) }
         ensures calls { L.begun link.new ≡ L.begun link.old }
     {
@@ -140,6 +152,7 @@ impl Source {
         ensures heard { self.new.is_heard
             ≡ (self.old.is_heard || is_past (heard_time self.old) desk.old.time) }
         ensures more { self.new.has_more ≡ self.old.has_more }
+        ensures waits { SameWaiting self.old self.new }
         ensures upstream { self.new.upstream ≡ self.old.upstream }
         ensures time { desk.new.time ≡ desk.old.time }
     {
@@ -167,8 +180,8 @@ impl Source {
         ensures waits { self.old.reach ≡ Away
             → self.old.upstream.place < length self.old.places.items → IsAtRest self.new }
         // from now on it may be late
-        ensures opened { self.old.reach ≡ Away → (since : ℕ) → self.new.reach ≡ Connecting since
-            → (since ≡ desk.old.time) × (self.new.opened ≡ desk.old.time) }
+        ensures opened { self.old.reach ≡ Away → (self.new.reach ≡ Away)
+            ⊎ ((self.new.reach ≡ Connecting desk.old.time) × (self.new.opened ≡ desk.old.time)) }
     {
         let coming = match self.begin_afresh(desk.alloc) {
             Ok(coming) => coming,
@@ -307,6 +320,7 @@ impl Source {
         ensures upstream { self.new.upstream ≡ self.old.upstream }
         ensures away { self.new.reach ≡ Away }
         ensures rests { self.new.has_more ≡ false }
+        ensures none { self.new.body_since ≡ None }
         ensures opened { self.new.opened ≡ self.old.opened }
     {
         link.close();

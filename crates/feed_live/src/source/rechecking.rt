@@ -7,7 +7,7 @@ ghost use Rattle.std.specs.Option.{option_copied};
 ghost use Rattle.feed_node.specs.States.{nothing_published};
 ghost use Rattle.feed_laws.specs.Follows.{MayAskWith};
 ghost use Rattle.feed_live.specs.Upstream.{asked_with};
-ghost use Rattle.feed_live.specs.Waiting.{brought};
+ghost use Rattle.feed_live.specs.Leaving.{brought};
 
 use crate::source::Source;
 use crate::source::reading::{given_twice, is_want_of_memory, line_or_part};
@@ -201,7 +201,7 @@ pub(crate) fn token_for<'a>(mirror: &'a Mirror, is_again: bool) -> Option<&'a st
 
 impl Source {
     ghost use Rattle.feed_live.specs.Relaying.{StillFollows, SameSource, WasLeft, within_turn};
-    ghost use Rattle.feed_live.specs.Waiting.{is_past, is_to_recheck, newest_time};
+    ghost use Rattle.feed_live.specs.Leaving.{is_past, is_to_recheck, newest_time};
     ghost use Rattle.feed_live.specs.declared.source.Reach.TheVariants.{Away, Reads as Read};
 
     /// What the next connection is to bring, where it asks for the newest commit again.

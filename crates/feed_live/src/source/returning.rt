@@ -4,7 +4,7 @@
 //! the first one is followed for longer, until the next round.
 
 ghost use Rattle.std.specs.Prelude.{◌≡◌, ◌+◌, ◌%◌, min, nat_lt, if◌then◌else◌, not, false, true};
-ghost use Rattle.feed_live.specs.Waiting.{has_left_quiet, is_past, quiet_at, quiet_time};
+ghost use Rattle.feed_live.specs.Leaving.{has_left_quiet, is_past, quiet_at, quiet_time};
 
 use crate::source::{Reach, Source};
 use crate::times::ROUND_TIME;

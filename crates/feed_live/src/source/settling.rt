@@ -274,7 +274,8 @@ impl Source {
 
     /// When what comes afresh has settled, if nothing more comes until then.
     pub(crate) fn settles_at(&self) -> Option<u64>
-        // never where nothing comes afresh, or that has published nothing; else in ten minutes
+        // never where nothing comes afresh, or that has published nothing, or is what is shown; and
+        // no later than in ten minutes
         ensures none { has_come self.now.coming ≡ false → result ≡ None }
         ensures shown { is_at_shown self.now ≡ true → result ≡ None }
         ensures late { IfSome result (λ at. at ≤ later self.now.settling.began 600000) }

@@ -1,6 +1,6 @@
 //! The part of a turn that follows: the input, or a server; and writes the state file.
 
-ghost use Rattle.std.specs.Prelude.{◌≡◌, ◌≢◌, ◌⊎◌, [], List, ℕ, ◌≤◌, Some, Contains, IfSome, is_some, false, true, None};
+ghost use Rattle.std.specs.Prelude.{◌≡◌, ◌≢◌, ◌<◌, ◌⊎◌, [], List, ℕ, ◌≤◌, Some, Contains, IfSome, is_some, false, true, None};
 ghost use Rattle.feed_node.specs.States.{NodeState};
 ghost use Rattle.feed_device.specs.Calls.{CalledOnce, CalledAtLeastOnce};
 ghost use Rattle.feed_device.specs.Files.{IsKnown};
@@ -13,7 +13,7 @@ use feed_device::{Link, Report, Store};
 
 impl Live {
     ghost use Rattle.feed_live.specs.Relaying.{StillRelaying, OnlyServes, SameEnd, IsToConnect};
-    ghost use Rattle.feed_live.specs.Waiting.{BeginsOne, IsAtRest, IsLeft};
+    ghost use Rattle.feed_live.specs.Leaving.{BeginsOne, IsAtRest, IsToLeave};
     ghost use Rattle.feed_live.specs.declared.source.Reach.TheVariants.{Away};
     ghost use Rattle.feed_live.specs.Ending.{EndsWithInput};
     ghost use Rattle.feed_live.specs.Answering.{has_heard};
@@ -122,9 +122,13 @@ impl Live {
         ensures begins { self.old.ends_at ≡ None → IsToConnect self.old.source self.old.desk.time
             → BeginsOne (L.begun link.old) (L.begun link.new) self.old.source self.new.source
             self.old.desk.time }
+        // where there is no connection, and none is due yet, none is begun
+        ensures pauses { self.old.source.reach ≡ Away → self.old.source.has_more ≡ false
+            → self.old.desk.time < self.old.source.upstream.since
+            → L.begun link.new ≡ L.begun link.old }
         // one that is late or silent is left; the next one may be connected to at once
         ensures leaves { self.old.ends_at ≡ None → self.old.source.places.items ≢ []
-            → IsLeft self.old.source self.old.limits.screens.idle self.old.desk.time
+            → IsToLeave self.old.source self.old.limits.screens.idle self.old.desk.time
             → CalledOnce (L.begun link.old) (L.begun link.new)
             ⊎ (self.new.source.reach ≡ Away) }
     {

@@ -1,5 +1,5 @@
 use Rattle.std.proofs.Common.{subst}
-use Rattle.feed_live.specs.Waiting.{IsBy}
+use Rattle.feed_live.specs.Leaving.{IsBy}
 use Rattle.feed_live.proofs.SourceLemmas.{at_most_so, by_sooner}
 use Rattle.feed_live.proofs.source.Source.looks_at.Goals as goal
 

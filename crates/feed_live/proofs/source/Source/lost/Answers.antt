@@ -14,5 +14,6 @@ returns-clause-left g c =
       limits = ap (λ m. m.limits) shown;
       node = ap (λ m. m.node) shown;
       blank = ap (λ a. a.blank.mirror) c.leave.ensures.answers ∙ c.hear_end.ensures.same.blank ∙ c.lose-is_reported.ensures.same.blank;
+      body_since = c.leave.ensures.none;
       opened = c.leave.ensures.opened ∙ c.hear_end.ensures.same.opened ∙ c.lose-is_reported.ensures.same.opened;
     }

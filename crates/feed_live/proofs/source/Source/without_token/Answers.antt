@@ -17,6 +17,7 @@ returns g c =
         node = either (has_another c.leave.new.self.upstream.refused c.leave.new.self.upstream.places)
             (λ is. ap (λ m. m.node) ((c.refused.ensures.next is).1 ∙ shown)) (λ is. ap (λ m. m.node) (c.refused.ensures.fresh is).1 ∙ ap (λ m. m.node) shown);
         blank = ap (λ a. a.blank.mirror) c.leave.ensures.answers;
+        body_since = c.leave.ensures.none;
         opened = c.leave.ensures.opened;
       };
       at_once = either (has_another c.leave.new.self.upstream.refused c.leave.new.self.upstream.places) (λ is. (c.refused.ensures.next is).0.2) (λ is. (c.refused.ensures.fresh is).0.2);

@@ -47,6 +47,7 @@ returns g c =
       at_once = c.saved_of-saved.ensures.at_once;
       reported = refl;
       connects = ap (λ u. u.since) c.begin_input.ensures.upstream ∙ c.new-source.ensures.due ∙ c.new-desk.ensures.time;
+      round = ap (λ u. u.places) c.begin_input.ensures.upstream ∙ c.new-source.ensures.round;
       heard = λ shown some old. c.begin_input.ensures.heard ∙ c.new-source.ensures.heard shown some old;
       settles = (
         ap (λ s. s.pause) c.begin_input.ensures.settling ∙ c.new-source.ensures.settles.0,

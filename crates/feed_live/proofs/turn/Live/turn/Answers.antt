@@ -5,7 +5,7 @@ use Rattle.feed_live.specs.Ending.{SameBeside, SameSaved}
 use Rattle.feed_files.specs.Input.{StopsInput}
 use Rattle.feed_live.specs.Taking.{bytes_in}
 use Rattle.feed_live.specs.Relaying.{IsToConnect}
-use Rattle.feed_live.specs.Waiting.{IsLeft}
+use Rattle.feed_live.specs.Leaving.{IsToLeave}
 use Rattle.feed_screens.proofs.ServingLemmas.{serving_noted}
 use Rattle.feed_live.proofs.TurnLemmas.{beside_then, serves_then, screens_only, relays_on, takes_only, takes_still, asked_then, goes_with, to_connect_same, left_same, begins_same, away_still}
 use Rattle.feed_screens.proofs.OwedLemmas.{owes_what_is_kept}
@@ -74,9 +74,9 @@ returns g c =
           let places = ap (λ s. s.places.items) apart.0 ∙ ap (λ s. s.places) said.source.servers in
           away_still served.waiting.reach
           (c.follow.ensures.leaves (sym (served.ends.1 ∙ c.follow.ensures.ends.1) ∙ goes_on) (λ none. some (sym places ∙ none))
-          (subst (λ l. IsLeft c.take_input.new.self.source l.screens.idle c.take_input.new.self.desk.time) (sym (c.take_input.ensures.ends.limits ∙ said.ends.0))
-          (subst (λ t. IsLeft c.take_input.new.self.source c.args.self.now.limits.screens.idle t) (sym time)
-          (subst (λ s. IsLeft s c.args.self.now.limits.screens.idle c.args.now) (sym apart.0) (left_same c.args.self.now.limits.screens.idle c.args.now said.waiting is)))));
+          (subst (λ l. IsToLeave c.take_input.new.self.source l.screens.idle c.take_input.new.self.desk.time) (sym (c.take_input.ensures.ends.limits ∙ said.ends.0))
+          (subst (λ t. IsToLeave c.take_input.new.self.source c.args.self.now.limits.screens.idle t) (sym time)
+          (subst (λ s. IsToLeave s c.args.self.now.limits.screens.idle c.args.now) (sym apart.0) (left_same c.args.self.now.limits.screens.idle c.args.now said.waiting is)))));
       takes = c.next.ensures.takes;
       over = c.next.ensures.over;
     }

@@ -18,7 +18,7 @@ abbrev pub is_past : Option ℕ → ℕ → Bool
 is_past None now = false
 is_past (Some at) now = nat_le at now
 
--- so late, if there is a time at all
+-- no later than a time, if there is one
 abbrev pub IsBy : Option ℕ → ℕ → Type 0
 IsBy at due = IfSome at (λ at. due ≤ at)
 
@@ -36,21 +36,22 @@ is_end Memory = false
 
 -- ---- a server that does not answer
 
--- a server was left for having nothing new, and none was lost since
+-- A server was left for having nothing new. Since then nothing was published, and none was lost that
+-- had answered.
 abbrev pub has_left_quiet : Returning → Bool
 has_left_quiet returning = nat_lt 0 returning.left_quiet
 
--- How long a server may take to take a connection. It is shorter where another server was left for
--- it that did not fail.
+-- For how long a server may take no connection: two seconds if another one was left for it that did
+-- not fail, else ten.
 abbrev pub connect_time : Returning → ℕ
 connect_time returning = if has_left_quiet returning then 2000 else 10000
 
--- When the answer is late of a connection that was begun at a time: never once its head has come.
+-- When an answer is late: twenty seconds after the connection was begun, until its head has come.
 abbrev pub answer_late : ℕ → Option ℕ → Option ℕ
 answer_late opened None = Some (later opened 20000)
 answer_late opened (Some since) = None
 
--- When a server is late: it does not take the connection, or does not answer.
+-- When a server is late that does not take the connection, or does not answer.
 abbrev pub late_at : Reach → Returning → ℕ → Option ℕ → Option ℕ
 late_at Away returning opened body_since = None
 late_at (Connects since) returning opened body_since = Some (later since (connect_time returning))
@@ -83,7 +84,7 @@ why_left source idle now =
 
 -- ---- a server that has nothing new
 
--- all servers were left for having nothing new since something was published
+-- each server was left for having nothing new in this round of them
 abbrev pub were_all_left : Source → Bool
 were_all_left source = nat_le (length source.places.items) source.returning.left_quiet
 
@@ -96,8 +97,8 @@ quiet_time returning is_first all_left =
     else if has_left_quiet returning && not all_left then min 10000 returning.after
     else returning.after
 
--- A server may be left for having nothing new: there is another one, its answer is read, nothing
--- that came waits, and nothing is to settle. The relay is set to leave one so.
+-- A server may be left for having nothing new: there is another one, nothing that came waits, and
+-- nothing is to settle. The relay is set to leave one so.
 abbrev pub may_be_left : Source → Bool
 may_be_left source =
     is_none source.coming && nat_le 2 (length source.places.items) && not source.has_more
@@ -108,8 +109,8 @@ quiet_since source since =
     later (max since source.returning.published)
     (quiet_time source.returning (nat_eq source.upstream.place 0) (were_all_left source))
 
--- When a server is left that has nothing new: so long after the head of its answer came, or after
--- something was published.
+-- When a server is left whose answer is read, and that has nothing new: so long after the head of
+-- that answer came, or after something was published, whichever was later.
 abbrev pub quiet_at : Source → Reach → Option ℕ
 quiet_at source Reads =
     if may_be_left source then option_map (quiet_since source) source.body_since else None
@@ -126,15 +127,15 @@ heard_time source =
     if source.is_heard || source.is_fresh || is_some source.rechecking.again then None
     else option_map (λ since. later since 1000) source.body_since
 
--- When one that was asked for the newest commit again, and sent nothing, is asked with the newest
--- token.
+-- When one that was asked for the newest commit again, and has not sent that, is asked with the newest
+-- token: a second after the head of its answer, if none was heard.
 abbrev pub newest_time : Source → Option ℕ
 newest_time source =
     if source.is_heard || is_none source.rechecking.again then None
     else option_map (λ since. later since 1000) source.body_since
 
--- The next connection asks for the newest commit again: the relay is set to, a commit before that
--- is held, and no server asked for it doesn't hold the one before, nor is everything asked for.
+-- The next connection asks for the newest commit again: the relay is set to, holds the commit before
+-- that, does not ask for everything, and the server does not lack the commit before.
 abbrev pub is_to_recheck : Source → Bool
 is_to_recheck source =
     source.rechecking.is_on && not source.rechecking.asks_newest
@@ -159,9 +160,9 @@ abbrev pub BeginsOne : Option ℕ → Option ℕ → Source → Source → ℕ �
 BeginsOne before after old new now =
     CalledOnce before after ⊎ ((after ≡ before) × GoesOnTo old new now)
 
--- A server is followed that is late or silent.
-abbrev pub IsLeft : Source → ℕ → ℕ → Type 0
-IsLeft source idle now = (source.reach ≢ Away) × (why_left source idle now ≢ None)
+-- A server is followed that is to be left: it is late or silent.
+abbrev pub IsToLeave : Source → ℕ → ℕ → Type 0
+IsToLeave source idle now = (source.reach ≢ Away) × (why_left source idle now ≢ None)
 
 -- nothing is to be read
 abbrev pub IsAtRest : Source → Type 0
@@ -170,7 +171,7 @@ IsAtRest source = (source.has_more ≡ false) × (source.reach ≢ Reads)
 -- One that is late or silent is left, and the next one is asked.
 abbrev pub LeavesLate : Source → Source → ℕ → ℕ → Type 0
 LeavesLate old new idle now =
-    IsLeft old idle now → (new.reach ≡ Away) × (new.has_more ≡ false) × GoesOnTo old new now
+    IsToLeave old idle now → (new.reach ≡ Away) × (new.has_more ≡ false) × GoesOnTo old new now
 
 -- It is neither late nor silent, nor is it to be left for having nothing new, nor to be asked with
 -- the newest token.
