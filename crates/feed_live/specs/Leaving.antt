@@ -1,6 +1,7 @@
 -- For how long a relay waits for a server, and why it leaves one. All times are in milliseconds.
-use Rattle.std.specs.Prelude.{◌≡◌, ◌≢◌, ◌⊎◌, ℕ, ◌≤◌, ◌^◌, ◌-◌, ◌*◌, Bool, true, false, not, ◌&&◌, ◌||◌, nat_eq, nat_lt, nat_le, bytes_eq, min, max, if◌then◌else◌, List, length, Option, Some, None, is_some, is_none, option_map, IfSome}
+use Rattle.std.specs.Prelude.{◌≡◌, ◌≢◌, ◌⊎◌, ℕ, ◌≤◌, ◌^◌, ◌-◌, ◌*◌, Bool, true, false, not, ◌&&◌, ◌||◌, nat_eq, nat_lt, nat_le, bytes_eq, min, max, if◌then◌else◌, List, [], ◌∷◌, length, Option, Some, None, is_some, is_none, option_map, IfSome}
 use Rattle.feed_device.specs.Calls.{CalledOnce}
+use Rattle.feed_device.specs.Links.{Exchange, Exchanges}
 use Rattle.feed_device.specs.declared.report.Why.{Why}
 use Rattle.feed_device.specs.declared.report.Why.TheVariants.{Unknown, Refuses, Late, NoAnswer, Broke, Ended, Silent, Fault, Memory}
 use Rattle.feed_hub.specs.Upstream.{later}
@@ -155,6 +156,17 @@ brought (Some came) node = brought_to came (published_token node) node
 
 -- ---- what becomes of it
 
+-- the server of the latest connection
+abbrev pub latest_server : List Exchange → Option ℕ
+latest_server [] = None
+latest_server (latest ∷ before) = Some latest.server
+
+-- no connection was begun, or one to this server
+abbrev pub ConnectsTo : ℕ → Exchanges → Exchanges → Type 0
+ConnectsTo server before after =
+    (after ≡ before)
+    ⊎ (option_map latest_server after ≡ option_map (λ exchanges. Some server) before)
+
 -- A connection was begun, once; or memory ran out, and the next place is asked after that.
 abbrev pub BeginsOne : Option ℕ → Option ℕ → Source → Source → ℕ → Type 0
 BeginsOne before after old new now =
@@ -163,6 +175,14 @@ BeginsOne before after old new now =
 -- A server is followed that is to be left: it is late or silent.
 abbrev pub IsToLeave : Source → ℕ → ℕ → Type 0
 IsToLeave source idle now = (source.reach ≢ Away) × (why_left source idle now ≢ None)
+
+-- A server is followed that is to be left for another reason: it has nothing new for long, or is to
+-- be asked with the newest token.
+abbrev pub IsToMove : Source → ℕ → ℕ → Type 0
+IsToMove source idle now =
+    (source.reach ≢ Away) × (why_left source idle now ≡ None)
+    × ((is_past (quiet_at source source.reach) now ≡ true)
+    ⊎ (is_past (newest_time source) now ≡ true))
 
 -- nothing is to be read
 abbrev pub IsAtRest : Source → Type 0

@@ -256,8 +256,7 @@ impl Live {
         ensures awake { result.due ≤ min (self.new.reported + 60000) (2 ^ 64 - 1) }
         ensures reported { (self.new.reported ≡ self.old.reported) ⊎ (self.new.reported ≡ now) }
 
-        // where a state file is to be written, a server to be asked, read or left, or the end comes,
-        // then
+        // where a state file, a server or the end is due, then
         ensures due { IsDueInTime self.new now result.due }
 
         // it has state files where it had them

@@ -18,7 +18,7 @@ use std::alloc::{AllocError, Global};
 impl Source {
     ghost use Rattle.feed_live.specs.Relaying.{StillFollows, SameSource, SameWaiting, WasLeft, GoesOnTo, IsToConnect, servers_of, within_turn};
     ghost use Rattle.feed_live.specs.Upstream.{IsRequestOf, IsRequestWith, asked_with};
-    ghost use Rattle.feed_live.specs.Leaving.{connect_time, has_left_quiet, heard_time, is_end, is_past, late_time, newest_time, quiet_at, why_late, why_left, LeavesLate, IsToLeave, IsToStay, IsAtRest};
+    ghost use Rattle.feed_live.specs.Leaving.{connect_time, has_left_quiet, heard_time, is_end, is_past, late_time, newest_time, quiet_at, why_late, why_left, LeavesLate, IsToLeave, IsToMove, IsToStay, IsAtRest, ConnectsTo};
     ghost use Rattle.feed_live.specs.declared.source.Reach.TheVariants.{Away, Connects as Connecting, Asks as Asked};
     ghost use Rattle.feed_screens.specs.declared.screens.Screens.{Screens};
 
@@ -75,14 +75,17 @@ impl Source {
         // one that is neither, and not to be left for anything else, is followed on
         ensures stays { self.old.reach ≢ Away → IsToStay self.old idle desk.old.time
             → SameSource self.old self.new × SameWaiting self.old self.new
-            × (L.begun link.new ≡ L.begun link.old) }
+            × (self.new.has_more ≡ self.old.has_more) × (L.begun link.new ≡ L.begun link.old) }
         // where there is no connection, and none is due yet, none is begun
         ensures pauses { self.old.reach ≡ Away → desk.old.time < self.old.upstream.since
             → SameSource self.old self.new × SameWaiting self.old self.new
             × (self.new.has_more ≡ self.old.has_more) × (L.begun link.new ≡ L.begun link.old) }
         // where one is due, or was left, there is nothing to read yet
         ensures rests { IsToConnect self.old desk.old.time ⊎ IsToLeave self.old idle desk.old.time
-            → IsAtRest self.new }
+            ⊎ IsToMove self.old idle desk.old.time → IsAtRest self.new }
+        // so is one that is to be left for another reason
+        ensures moves { IsToMove self.old idle desk.old.time
+            → CalledOnce (L.begun link.old) (L.begun link.new) ⊎ (self.new.reach ≡ Away) }
     {
         self.leave_due(desk, link, idle);
         self.hear_quiet(desk);
@@ -114,6 +117,8 @@ impl Source {
             → is_past (quiet_at self.old self.old.reach) desk.old.time ≡ false
             → is_past (newest_time self.old) desk.old.time ≡ true
             → (self.new.reach ≡ Away) × (self.new.upstream.since ≡ desk.old.time) }
+        ensures moves { IsToMove self.old idle desk.old.time
+            → (self.new.reach ≡ Away) × (self.new.has_more ≡ false) }
         ensures calls { L.begun link.new ≡ L.begun link.old }
     {
         if self.reach == Reach::Away {
@@ -179,6 +184,9 @@ impl Source {
         ensures rests { self.old.reach ≡ Away → self.old.has_more ≡ false → IsAtRest self.new }
         ensures waits { self.old.reach ≡ Away
             → self.old.upstream.place < length self.old.places.items → IsAtRest self.new }
+        // it is one to the server whose turn it is
+        ensures server { ConnectsTo self.old.upstream.place (L.exchanges link.old)
+            (L.exchanges link.new) }
         // from now on it may be late
         ensures opened { self.old.reach ≡ Away → (self.new.reach ≡ Away)
             ⊎ ((self.new.reach ≡ Connecting desk.old.time) × (self.new.opened ≡ desk.old.time)) }

@@ -295,6 +295,7 @@ impl Source {
     /// A server does not hold the token before the newest: it is asked with the newest.
     pub(crate) fn ask_newest<L: Link>(&mut self, link: &mut L, now: u64)
         ensures left { WasLeft self.old self.new (L.exchanges link.old) (L.exchanges link.new) }
+        ensures rests { self.new.has_more ≡ false }
         ensures calls { L.begun link.new ≡ L.begun link.old }
         ensures at_once { self.new.upstream.since ≡ now }
     {

@@ -143,6 +143,7 @@ impl Source {
     pub(crate) fn leave_quiet<L: Link>(&mut self, desk: &mut Desk, link: &mut L)
         ensures left { WasLeft self.old self.new (L.exchanges link.old) (L.exchanges link.new) }
         ensures calls { L.begun link.new ≡ L.begun link.old }
+        ensures rests { self.new.has_more ≡ false }
         ensures next { self.new.upstream.place
             ≡ min (self.old.upstream.place + 1) u64.MAX % self.old.upstream.places }
         ensures at_once { self.new.upstream.since ≡ desk.old.time }

@@ -12,8 +12,8 @@ use crate::turn::{Input, Live};
 use feed_device::{Link, Report, Store};
 
 impl Live {
-    ghost use Rattle.feed_live.specs.Relaying.{StillRelaying, OnlyServes, SameEnd, IsToConnect};
-    ghost use Rattle.feed_live.specs.Leaving.{BeginsOne, IsAtRest, IsToLeave};
+    ghost use Rattle.feed_live.specs.Relaying.{StillRelaying, OnlyServes, SameEnd, SameWaiting, IsToConnect};
+    ghost use Rattle.feed_live.specs.Leaving.{BeginsOne, IsAtRest, IsToLeave, IsToMove, IsToStay};
     ghost use Rattle.feed_live.specs.declared.source.Reach.TheVariants.{Away};
     ghost use Rattle.feed_live.specs.Ending.{EndsWithInput};
     ghost use Rattle.feed_live.specs.Answering.{has_heard};
@@ -131,6 +131,17 @@ impl Live {
             → IsToLeave self.old.source self.old.limits.screens.idle self.old.desk.time
             → CalledOnce (L.begun link.old) (L.begun link.new)
             ⊎ (self.new.source.reach ≡ Away) }
+        // so is one that has nothing new for long, or is to be asked with the newest token
+        ensures moves { self.old.ends_at ≡ None → self.old.source.places.items ≢ []
+            → IsToMove self.old.source self.old.limits.screens.idle self.old.desk.time
+            → CalledOnce (L.begun link.old) (L.begun link.new)
+            ⊎ (self.new.source.reach ≡ Away) }
+        // no other one is left before it is read
+        ensures stays { self.old.ends_at ≡ None → self.old.source.reach ≢ Away
+            → IsAtRest self.old.source
+            → IsToStay self.old.source self.old.limits.screens.idle self.old.desk.time
+            → SameWaiting self.old.source self.new.source
+            × (L.begun link.new ≡ L.begun link.old) }
     {
         if self.ends_at.is_some() || !self.source.has_servers() {
             return;

@@ -225,6 +225,7 @@ impl Source {
     /// What comes after the token that is shown is asked for, at the same server.
     pub(crate) fn ask_again<L: Link>(&mut self, link: &mut L, now: u64)
         ensures left { WasLeft self.old self.new (L.exchanges link.old) (L.exchanges link.new) }
+        ensures rests { self.new.has_more ≡ false }
         ensures calls { L.begun link.new ≡ L.begun link.old }
         ensures at_once { self.new.upstream.since ≡ now }
     {
