@@ -3,6 +3,7 @@
 ghost use Rattle.std.specs.Prelude.{◌≡◌, ◌≢◌, ◌<◌, ◌≤◌, ℕ, List, [], Option, None, Some, length, take, option_map, IfOk, OnOk};
 ghost use Rattle.std.specs.Io.KnownBytes.{WriteAppends};
 ghost use Rattle.feed_device.specs.Calls.{CalledOnce, AllCalls, NotCalled, OthersNotCalled};
+ghost use Rattle.feed_device.specs.Calls.{LinkCalls, uncounted, HasBegun, HasLooked, HasRead, HasWritten};
 ghost use Rattle.feed_device.specs.Files.{StateFiles, unknown_files, file_text, IsKnown, OtherFilesStay, HasAppended, IsLeftOf, gone_on_from};
 ghost use Rattle.feed_device.specs.declared.device.FileSlot.TheVariants.{Next};
 ghost use Rattle.feed_device.specs.declared.device.Stop.TheVariants.{Failed};
@@ -38,18 +39,21 @@ pub trait Sockets {
     // What went over the connections at a number, where it is known.
     ghost socket: { Self → ℕ → Option Socket } = { λ _ _. None };
 
-    // How often a connection was asked for, and at each number a write was offered, where that is
-    // counted.
+    // How often a connection was asked for, and at each number a write was offered and a read was
+    // tried, where that is counted.
     ghost asked: { Self → Option ℕ } = { λ _. None };
 
     ghost offered: { Self → AllCalls } = { λ _ _. None };
+
+    ghost tried: { Self → AllCalls } = { λ _ _. None };
 
     /// Takes the connection that has waited longest, and answers who it is. It never waits.
     fn accept(&mut self, at: usize) -> Result<SocketAddr, Stop>
         ensures connection { IsAccept (socket self.old at) (socket self.new at) result }
         ensures others { OtherSockets (socket self.old) (socket self.new) at }
         ensures asks { CalledOnce (asked self.old) (asked self.new) }
-        ensures offers { NotCalled (offered self.old) (offered self.new) };
+        ensures offers { NotCalled (offered self.old) (offered self.new) }
+        ensures tries { NotCalled (tried self.old) (tried self.new) };
 
     /// Reads some bytes to the start of `buf`, and answers how many: none where no more come.
     fn read(&mut self, at: usize, buf: &mut [u8]) -> Result<usize, Stop>
@@ -59,7 +63,9 @@ pub trait Sockets {
         ensures bytes { GivesBytes (socket self.old at) (socket self.new at) result buf.new }
         ensures others { OtherSockets (socket self.old) (socket self.new) at }
         ensures asks { asked self.new ≡ asked self.old }
-        ensures offers { NotCalled (offered self.old) (offered self.new) };
+        ensures offers { NotCalled (offered self.old) (offered self.new) }
+        ensures tries { CalledOnce (tried self.old at) (tried self.new at) }
+        ensures untried { OthersNotCalled (tried self.old) (tried self.new) at };
 
     /// Writes some of the bytes, from the first on, and answers how many.
     fn write(&mut self, at: usize, bytes: &[u8]) -> Result<usize, Stop>
@@ -68,20 +74,23 @@ pub trait Sockets {
         ensures others { OtherSockets (socket self.old) (socket self.new) at }
         ensures asks { asked self.new ≡ asked self.old }
         ensures offers { CalledOnce (offered self.old at) (offered self.new at) }
-        ensures rest { OthersNotCalled (offered self.old) (offered self.new) at };
+        ensures rest { OthersNotCalled (offered self.old) (offered self.new) at }
+        ensures tries { NotCalled (tried self.old) (tried self.new) };
 
     /// Ends what is sent; what comes may still be read.
     fn shut(&mut self, at: usize)
         ensures sockets { SameSockets (socket self.old) (socket self.new) }
         ensures asks { asked self.new ≡ asked self.old }
-        ensures offers { NotCalled (offered self.old) (offered self.new) };
+        ensures offers { NotCalled (offered self.old) (offered self.new) }
+        ensures tries { NotCalled (tried self.old) (tried self.new) };
 
     /// Closes the connection, where there is one. What went over it stays known.
     fn close(&mut self, at: usize)
         ensures closed { socket self.new at ≡ goes_on_with closed (socket self.old at) }
         ensures others { OtherSockets (socket self.old) (socket self.new) at }
         ensures asks { asked self.new ≡ asked self.old }
-        ensures offers { NotCalled (offered self.old) (offered self.new) };
+        ensures offers { NotCalled (offered self.old) (offered self.new) }
+        ensures tries { NotCalled (tried self.old) (tried self.new) };
 }
 
 /// The connection to one server of several. A server is what may answer at one address: a name that
@@ -90,25 +99,25 @@ pub trait Link {
     // What went over each connection so far, the latest first, where that is known.
     ghost exchanges: { Self → Option (List Exchange) } = { λ _. None };
 
-    // How often a connection was begun, also where that failed, where that is counted.
-    ghost begun: { Self → Option ℕ } = { λ _. None };
+    // How often each thing was done with it, also where that failed, where that is counted.
+    ghost calls: { Self → LinkCalls } = { λ _. uncounted };
 
     /// Begins to connect to the server of this number. One that was open is closed. An error says
     /// why nothing was begun.
     fn connect(&mut self, server: usize) -> Result<(), Why>
         ensures begins { BeginsLink (exchanges self.old) (exchanges self.new) result server }
-        ensures calls { CalledOnce (begun self.old) (begun self.new) };
+        ensures calls { HasBegun (calls self.old) (calls self.new) };
 
     /// Each server failed: the addresses of names are asked for again before the next connection.
     fn forget_addresses(&mut self)
         ensures unchanged { exchanges self.new ≡ exchanges self.old }
-        ensures calls { begun self.new ≡ begun self.old };
+        ensures calls { calls self.new ≡ calls self.old };
 
     /// Whether the connection that was begun is open. It is asked again after each event until it
     /// is, or fails.
     fn is_open(&mut self) -> Result<bool, Stop>
         ensures unchanged { exchanges self.new ≡ exchanges self.old }
-        ensures calls { begun self.new ≡ begun self.old };
+        ensures calls { HasLooked (calls self.old) (calls self.new) };
 
     /// Reads some bytes to the start of `buf`, and answers how many: none where no more come.
     fn read(&mut self, buf: &mut [u8]) -> Result<usize, Stop>
@@ -116,32 +125,32 @@ pub trait Link {
         ensures same { length buf.new ≡ length buf.old }
         ensures bound { IfOk result (λ n. n ≤ length buf.new) }
         ensures bytes { Receives (exchanges self.old) (exchanges self.new) result buf.new }
-        ensures calls { begun self.new ≡ begun self.old };
+        ensures calls { HasRead (calls self.old) (calls self.new) };
 
     /// Writes some of the bytes, from the first on, and answers how many.
     fn write(&mut self, bytes: &[u8]) -> Result<usize, Stop>
         ensures bound { IfOk result (λ n. n ≤ length bytes.now) }
         ensures bytes { WritesSome (exchanges self.old) (exchanges self.new) result bytes.now }
-        ensures calls { begun self.new ≡ begun self.old };
+        ensures calls { HasWritten (calls self.old) (calls self.new) };
 
     /// Closes the connection, where there is one.
     fn close(&mut self)
         ensures unchanged { exchanges self.new ≡ exchanges self.old }
-        ensures calls { begun self.new ≡ begun self.old };
+        ensures calls { calls self.new ≡ calls self.old };
 
     /// Screens are shown what came of this response, all but so many bytes, as it is now. No more
     /// of the response will be shown. A device need do nothing.
     fn show_once(&mut self, unread: usize)
         ensures shown { exchanges self.new
             ≡ option_map (shown_so once_at unread) (exchanges self.old) }
-        ensures calls { begun self.new ≡ begun self.old };
+        ensures calls { calls self.new ≡ calls self.old };
 
     /// Screens are shown what came of this response, all but so many bytes, and each state that it
     /// publishes from there on. A device need do nothing.
     fn show_all(&mut self, unread: usize)
         ensures shown { exchanges self.new
             ≡ option_map (shown_so all_from unread) (exchanges self.old) }
-        ensures calls { begun self.new ≡ begun self.old };
+        ensures calls { calls self.new ≡ calls self.old };
 }
 
 /// What becomes of the file that is kept beside the state file, when that is begun again.
