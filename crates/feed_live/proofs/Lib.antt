@@ -1,6 +1,7 @@
 pub mod SourceLemmas
 pub mod StateLemmas
 pub mod RelayLemmas
+pub mod TimesLemmas
 pub mod TurnLemmas
 pub mod ScreenLemmas
 pub mod HonestLemmas
@@ -14,3 +15,4 @@ pub mod ReplayLemmas
 pub mod TokenedExample
 pub mod ReplayExample
 pub mod RunLemmas
+pub mod AfreshLemmas

@@ -10,7 +10,7 @@ use Rattle.feed_node.specs.States.{NodeState, published_token}
 use Rattle.feed_world.specs.Log.{Log}
 use Rattle.feed_hub.specs.declared.hub.Hub.{Hub}
 use Rattle.feed_laws.specs.Laws.{IsInLog}
-use Rattle.feed_device.specs.Calls.{CalledOnce, CalledAtLeastOnce}
+use Rattle.feed_device.specs.Calls.{LinkCalls, HasBegun, CalledAtLeastOnce}
 use Rattle.feed_device.specs.Links.{Exchanges}
 use Rattle.feed_device.specs.Sockets.{AllSockets}
 use Rattle.feed_screens.specs.declared.conn.Conn.{Conn}
@@ -45,11 +45,13 @@ pub same_none : (source : Source) → SameSource source source
 same_none source = record { servers = refl; shown = refl; blank = refl; coming = refl; follower = refl; reach = refl; request = refl; rest = refl; opened = refl }
 
 pub waiting_none : (source : Source) → SameWaiting source source
-waiting_none source = record { upstream = refl; reach = refl; returning = refl; opened = refl; body_since = refl }
+waiting_none source = record { settling = refl; rechecking = refl; upstream = refl; reach = refl; returning = refl; opened = refl; body_since = refl }
 
 pub waiting_then : {a b c : Source} → SameWaiting b c → SameWaiting a b → SameWaiting a c
 waiting_then two one =
     record {
+      settling = two.settling ∙ one.settling;
+      rechecking = two.rechecking ∙ one.rechecking;
       upstream = two.upstream ∙ one.upstream;
       reach = two.reach ∙ one.reach;
       returning = two.returning ∙ one.returning;
@@ -90,7 +92,7 @@ why_by upstream reach returning opened body_since idle now =
     else None
 
 -- a server is left for the same
-why_same : {a b : Source} (idle now : ℕ) → SameWaiting a b → why_left b idle now ≡ why_left a idle now
+pub why_same : {a b : Source} (idle now : ℕ) → SameWaiting a b → why_left b idle now ≡ why_left a idle now
 unfolding why_by
 why_same {a} {b} idle now waiting =
     ap (λ u. why_by u b.reach b.returning b.opened b.body_since idle now) waiting.upstream
@@ -104,17 +106,22 @@ left_same {a} {b} idle now waiting is =
     (λ away. is.0 (sym waiting.reach ∙ away), λ none. is.1 (sym (why_same idle now waiting) ∙ none))
 
 -- one was begun, from the same to the same
-pub begins_same : {before after : Option ℕ} (a b c d : Source) {now time : ℕ} → b.upstream ≡ a.upstream → d.upstream ≡ c.upstream → time ≡ now
+pub begins_same : {before after : LinkCalls} (a b c d : Source) {now time : ℕ} → b.upstream ≡ a.upstream → d.upstream ≡ c.upstream → time ≡ now
     → BeginsOne before after b c time → BeginsOne before after a d now
 begins_same {before} {after} a b c d {now} {time} old new at begins =
-    subst (λ u. CalledOnce before after ⊎ ((after ≡ before) × GoesOn a.upstream u now)) (sym new)
-    (subst (λ u. CalledOnce before after ⊎ ((after ≡ before) × GoesOn u c.upstream now)) old
-    (subst (λ t. CalledOnce before after ⊎ ((after ≡ before) × GoesOn b.upstream c.upstream t)) at begins))
+    subst (λ u. HasBegun before after ⊎ ((after ≡ before) × GoesOn a.upstream u now)) (sym new)
+    (subst (λ u. HasBegun before after ⊎ ((after ≡ before) × GoesOn u c.upstream now)) old
+    (subst (λ t. HasBegun before after ⊎ ((after ≡ before) × GoesOn b.upstream c.upstream t)) at begins))
 
 -- one was begun, or there still is none
 pub away_still : {A : Type 0} {reach later : Reach} → later ≡ reach → A ⊎ (reach ≡ Away) → A ⊎ (later ≡ Away)
 away_still same (inl begun) = inl begun
 away_still same (inr away) = inr (same ∙ away)
+
+-- nor was one begun since
+pub left_on : {first before after : LinkCalls} {reach later : Reach} → after ≡ before → later ≡ reach → HasBegun first before ⊎ (reach ≡ Away) → HasBegun first after ⊎ (later ≡ Away)
+left_on {first} same reach (inl begun) = inl (subst (λ k. HasBegun first k) (sym same) begun)
+left_on same reach (inr away) = inr (reach ∙ away)
 
 -- numbers that differ
 pub differ_so : (a b : ℕ) → a ≢ b → not (a == b) ≡ true

@@ -1,6 +1,7 @@
 -- What is known of what comes afresh, beside what is shown.
-use Rattle.std.specs.Prelude.{Bool, false, ◌&&◌, ℕ, List, bytes_eq, is_some, Option, Some, None}
+use Rattle.std.specs.Prelude.{◌≡◌, ◌↔◌, IsTrue, Bool, true, false, ◌&&◌, ◌||◌, not, ℕ, List, bytes_eq, is_some, Option, Some, None}
 use Rattle.feed_node.specs.Mirroring.{MirrorState}
+use Rattle.feed_node.specs.Publishing.{Published}
 use Rattle.feed_node.specs.States.{NodeState, published_token, holds_token}
 use Rattle.feed_live.specs.declared.source.Source.{Source}
 
@@ -13,6 +14,16 @@ are_one None other = false
 -- two nodes have published at one token
 abbrev pub have_one_token : NodeState → NodeState → Bool
 have_one_token one other = are_one (published_token one) (published_token other)
+
+-- both have published, and that is the same
+abbrev pub ArePublished : Option Published → Option Published → Type 0
+ArePublished (Some one) (Some other) = one.tables ≡ other.tables
+ArePublished (Some one) None = ⊥
+ArePublished None other = ⊥
+
+-- two nodes show the same tables
+abbrev pub HaveOneState : NodeState → NodeState → Type 0
+HaveOneState one other = ArePublished one.published other.published
 
 -- what comes has published, which gave it a token to ask with
 abbrev pub has_come : Option MirrorState → Bool
@@ -41,3 +52,18 @@ abbrev pub is_at_shown : Source → Bool
 is_at_shown source =
     source.settling.is_strange && goes_on_from source
     && are_one (token_that_came source.coming) (published_token source.answers.shown.mirror.node)
+
+-- What comes is at the token that is shown for the first time.
+abbrev pub is_to_compare : Source → MirrorState → Bool
+is_to_compare source coming =
+    not source.settling.is_compared && have_one_token coming.node source.answers.shown.mirror.node
+
+-- It is compared then, once: whether it has the state that is shown. One that has it counts as heard.
+pub record Compares (old new : Source) (coming : MirrorState) : Type 0 where
+  pub once : is_to_compare old coming ≡ true → new.settling.is_compared ≡ true
+  pub same : is_to_compare old coming ≡ true → IsTrue new.settling.is_same
+      ↔ HaveOneState coming.node old.answers.shown.mirror.node
+  pub heard : is_to_compare old coming ≡ true
+      → new.is_heard ≡ (old.is_heard || new.settling.is_same)
+  pub stays : is_to_compare old coming ≡ false
+      → (new.settling ≡ old.settling) × (new.is_heard ≡ old.is_heard)

@@ -1,6 +1,6 @@
 -- For how long a relay waits for a server, and why it leaves one. All times are in milliseconds.
 use Rattle.std.specs.Prelude.{◌≡◌, ◌≢◌, ◌⊎◌, ℕ, ◌≤◌, ◌^◌, ◌-◌, ◌*◌, Bool, true, false, not, ◌&&◌, ◌||◌, nat_eq, nat_lt, nat_le, bytes_eq, min, max, if◌then◌else◌, List, [], ◌∷◌, length, Option, Some, None, is_some, is_none, option_map, IfSome}
-use Rattle.feed_device.specs.Calls.{CalledOnce}
+use Rattle.feed_device.specs.Calls.{LinkCalls, HasBegun}
 use Rattle.feed_device.specs.Links.{Exchange, Exchanges}
 use Rattle.feed_device.specs.declared.report.Why.{Why}
 use Rattle.feed_device.specs.declared.report.Why.TheVariants.{Unknown, Refuses, Late, NoAnswer, Broke, Ended, Silent, Fault, Memory}
@@ -82,6 +82,24 @@ why_left source idle now =
     if is_silent source idle now then Some Silent
     else if is_past (late_time source) now then Some (why_late source.reach)
     else None
+
+-- Once one was lost that had answered, what becomes of the others is news again.
+abbrev pub after_loss : Option ℕ → Returning → Returning
+after_loss None returning = returning
+after_loss (Some head) returning = record {
+  after = returning.after;
+  published = returning.published;
+  left_quiet = 0;
+  was_reported = false;
+}
+
+-- Something was published at a time: a server was heard, and each has its turn again.
+pub record HasPublishedAt (new : Source) (now : ℕ) : Type 0 where
+  pub heard : new.is_heard ≡ true
+  pub published : (new.returning.published ≡ now) × (new.returning.left_quiet ≡ 0)
+  pub pause : new.upstream.pause ≡ 1000
+  pub counts : (new.upstream.failed ≡ 0) × (new.upstream.refused ≡ 0)
+  pub trusted : new.rechecking.is_doubted ≡ false
 
 -- ---- a server that has nothing new
 
@@ -168,9 +186,9 @@ ConnectsTo server before after =
     ⊎ (option_map latest_server after ≡ option_map (λ exchanges. Some server) before)
 
 -- A connection was begun, once; or memory ran out, and the next place is asked after that.
-abbrev pub BeginsOne : Option ℕ → Option ℕ → Source → Source → ℕ → Type 0
+abbrev pub BeginsOne : LinkCalls → LinkCalls → Source → Source → ℕ → Type 0
 BeginsOne before after old new now =
-    CalledOnce before after ⊎ ((after ≡ before) × GoesOnTo old new now)
+    HasBegun before after ⊎ ((after ≡ before) × GoesOnTo old new now)
 
 -- A server is followed that is to be left: it is late or silent.
 abbrev pub IsToLeave : Source → ℕ → ℕ → Type 0

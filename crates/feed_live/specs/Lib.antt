@@ -13,3 +13,5 @@ pub mod Examples
 pub mod Running
 pub mod Leaving
 pub mod Afresh
+pub mod Times
+pub mod Calling

@@ -12,7 +12,7 @@ use Rattle.feed_world.specs.Log.{Log}
 use Rattle.feed_hub.specs.declared.hub.Hub.{Hub}
 use Rattle.feed_hub.specs.declared.upstream.Upstream.{Upstream}
 use Rattle.feed_laws.specs.Laws.{IsInLog}
-use Rattle.feed_hub.specs.Upstream.{next_place, counted_on, asked_next, later}
+use Rattle.feed_hub.specs.Upstream.{next_place, counted_on, asked_next, pause_next, later}
 use Rattle.feed_device.specs.Links.{Exchange, Exchanges, Shown, nothing_shown, once_at, all_from, shown_so}
 use Rattle.feed_device.specs.Sockets.{AllSockets}
 use Rattle.feed_screens.specs.declared.conn.Conn.{Conn}
@@ -123,6 +123,25 @@ ShowsFromLog limits log contest source screens sockets =
 abbrev pub servers_of : Source → Servers
 servers_of source = record { places = source.places.items; identity = source.identity }
 
+-- What a relay is set to of its servers: how many have their turn, after how long one is left that
+-- has nothing new, and for how long one has to be quiet that was asked for everything; whether
+-- several have tokens of their own, and whether the newest commit is asked for again.
+pub record SourceSettings : Type 0 where
+  pub places : ℕ
+  pub after : ℕ
+  pub pause : ℕ
+  pub is_strange : Bool
+  pub rechecks : Bool
+
+abbrev pub settings_of : Source → SourceSettings
+settings_of source = record {
+  places = source.upstream.places;
+  after = source.returning.after;
+  pause = source.settling.pause;
+  is_strange = source.settling.is_strange;
+  rechecks = source.rechecking.is_on;
+}
+
 -- the mirror that follows: one that began afresh, and nobody is shown yet, or the one that is shown
 abbrev pub following_mirror : Option MirrorState → MirrorState → MirrorState
 following_mirror None shown = shown
@@ -227,6 +246,8 @@ pub record SameSource (old new : Source) : Type 0 where
 
 -- nothing changed of what a server is waited for, nor of which one is asked, and when
 pub record SameWaiting (old new : Source) : Type 0 where
+  pub settling : new.settling ≡ old.settling
+  pub rechecking : new.rechecking ≡ old.rechecking
   pub upstream : new.upstream ≡ old.upstream
   pub reach : new.reach ≡ old.reach
   pub returning : new.returning ≡ old.returning
@@ -270,6 +291,7 @@ GoesOn old new now =
     × (new.failed ≡ counted_on old.failed old.places)
     × (new.since ≡ asked_next (next_place old.place old.places) (later old.began 1000) old.failed
     old.places now old.pause)
+    × (new.pause ≡ pause_next old.failed old.places old.pause 30000) × (new.refused ≡ old.refused)
 
 abbrev pub GoesOnTo : Source → Source → ℕ → Type 0
 GoesOnTo old new now = GoesOn old.upstream new.upstream now

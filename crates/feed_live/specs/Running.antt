@@ -26,6 +26,7 @@ use Rattle.feed_live.specs.Relaying.{IsRelaying, StillRelaying}
 use Rattle.feed_files.specs.Saved.{ArePartsOfRecords, KeepsFiles}
 use Rattle.feed_live.specs.States.{states_of}
 use Rattle.feed_live.specs.Taking.{IsTakingInput, StillTaking, StopsTaking, bytes_in}
+use Rattle.feed_live.specs.Times.{KeepsTimes}
 use Rattle.feed_files.specs.Input.{TakesInput, StopsInput}
 use Rattle.feed_live.specs.Upstream.{Servers, AreKnownHonest}
 use Rattle.feed_files.specs.Input.{IsHonestInput}
@@ -149,6 +150,7 @@ pub record IsTurn (old new : Moment) : Type 0 where
   pub says : IfSome new.live.screens.saying.waits (λ at. now ≤ at → new.next.due ≤ at)
   pub awake : new.next.due ≤ min (new.live.reported + 60000) (2 ^ 64 - 1)
   pub due : IsDueInTime new.live now new.next.due
+  pub keeps : old.live.feeds ≡ false → KeepsTimes old.live.source new.live.source now now
   pub ends : EndsWithInput old.live new.live given
   pub takes : new.next.takes_input
       ≡ (is_none new.live.ends_at && is_none new.live.screens.saying.waits)

@@ -1,6 +1,6 @@
 //! The server that is followed, and the mirror of what it sends.
 
-ghost use Rattle.std.specs.Prelude.{◌≡◌, ◌≢◌, ◌<◌, ◌≤◌, ◌⊎◌, [], None, Some, false, true, length, max};
+ghost use Rattle.std.specs.Prelude.{◌≡◌, ◌≢◌, ℕ, ◌<◌, ◌≤◌, ◌⊎◌, [], None, Some, false, true, length, max};
 ghost use Rattle.feed_hub.specs.Upstream.{later};
 ghost use Rattle.feed_live.specs.Leaving.{LooksInTime, IsBy, heard_time};
 
@@ -117,6 +117,7 @@ impl Source {
     ghost use Rattle.feed_live.specs.Relaying.{SameSource, SameWaiting};
     ghost use Rattle.feed_live.specs.declared.source.Reach.TheVariants.{Away};
     ghost use Rattle.feed_live.specs.Answering.{has_heard};
+    ghost use Rattle.feed_live.specs.Times.{AreBy, times_of};
 
     pub(crate) fn new(
         desk: &Desk,
@@ -136,6 +137,8 @@ impl Source {
         ensures settles { (result.settling.pause ≡ limits.settle)
             × (result.settling.is_always ≡ limits.is_fresh) }
         ensures due { result.upstream.since ≡ desk.now.time }
+        // no time that it keeps is one to come
+        ensures times { (latest : ℕ) → desk.now.time ≤ latest → AreBy latest (times_of result) }
         // each of them has its turn
         ensures round { result.upstream.places ≡ max (length places.items) 1 }
         // what was restored is not shown before a server was heard, unless it is to be at once
@@ -218,6 +221,7 @@ impl Source {
 
     /// An event came for the connection.
     pub(crate) fn wake(&mut self)
+        ensures more { self.old.reach ≢ Away → self.new.has_more ≡ true }
         ensures same { SameSource self.old self.new }
         ensures waits { SameWaiting self.old self.new }
         ensures heard { self.new.is_heard ≡ self.old.is_heard }

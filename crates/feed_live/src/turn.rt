@@ -5,7 +5,7 @@ ghost use Rattle.feed_settings.specs.Limits.{Limits};
 ghost use Rattle.feed_node.specs.States.{NodeState};
 ghost use Rattle.feed_world.specs.Log.{Log};
 ghost use Rattle.feed_laws.specs.Laws.{IsInLog};
-ghost use Rattle.feed_device.specs.Calls.{CalledOnce, CalledAtLeastOnce};
+ghost use Rattle.feed_device.specs.Calls.{HasBegun, CalledAtLeastOnce};
 ghost use Rattle.feed_device.specs.Links.{Exchanges};
 ghost use Rattle.feed_device.specs.Sockets.{AllSockets, IsUnused};
 ghost use Rattle.feed_live.specs.Upstream.{Servers};
@@ -75,7 +75,9 @@ pub struct Live {
 
 impl Live {
     ghost use Rattle.feed_live.specs.Relaying.{IsRelaying, IsToConnect, StillRelaying, OnlyServes};
-    ghost use Rattle.feed_live.specs.Leaving.{BeginsOne, IsToLeave};
+    ghost use Rattle.feed_live.specs.Calling.{HeedsLink};
+    ghost use Rattle.feed_live.specs.Leaving.{BeginsOne, IsToLeave, is_past, newest_time, why_left};
+    ghost use Rattle.feed_live.specs.Times.{AreBy, KeepsTimes, times_of};
     ghost use Rattle.feed_live.specs.declared.source.Reach.TheVariants.{Away};
     ghost use Rattle.feed_live.specs.Taking.{IsTakingInput, StillTaking, StopsTaking, bytes_in};
     ghost use Rattle.feed_live.specs.Ending.{SameBeside, SameSaved};
@@ -130,6 +132,8 @@ impl Live {
         // what was restored answers nobody before a server was heard, unless it is to at once
         ensures heard { start.restored.mirror.node.published ≢ None → start.places.items ≢ []
             → limits.serves_old ≡ false → result.source.is_heard ≡ false }
+        // no time that it keeps of its servers is one to come
+        ensures times { (latest : ℕ) → now ≤ latest → AreBy latest (times_of result.source) }
         // it may connect at once, to each server in turn, and shows what came afresh once that has
         // settled
         ensures connects { result.source.upstream.since ≡ now }
@@ -277,15 +281,30 @@ impl Live {
         // asked after that
         ensures begins { self.old.feeds ≡ false → self.new.ends_at ≡ None
             → IsToConnect self.old.source now
-            → BeginsOne (L.begun devices.old.link) (L.begun devices.new.link)
+            → BeginsOne (L.calls devices.old.link) (L.calls devices.new.link)
             self.old.source self.new.source now }
 
         // one that is late or silent is left; the next one may be connected to at once
         ensures leaves { self.old.feeds ≡ false → self.new.ends_at ≡ None
             → self.old.source.places.items ≢ []
             → IsToLeave self.old.source self.old.limits.screens.idle now
-            → CalledOnce (L.begun devices.old.link) (L.begun devices.new.link)
+            → HasBegun (L.calls devices.old.link) (L.calls devices.new.link)
             ⊎ (self.new.source.reach ≡ Away) }
+
+        // no time that it keeps of its servers is put off, and it is set to the same
+        ensures keeps { self.old.feeds ≡ false
+            → KeepsTimes self.old.source self.new.source now now }
+
+        // the connection to a server is looked at, written to or read once an event comes for it,
+        // unless the server is to be left, or something waits to be said
+        ensures heeds { self.old.feeds ≡ false → self.new.ends_at ≡ None
+            → self.old.source.places.items ≢ [] → self.old.source.reach ≢ Away
+            → Contains events.now Ready.Link
+            → why_left self.old.source self.old.limits.screens.idle now ≡ None
+            → is_past (newest_time self.old.source) now ≡ false
+            → self.old.screens.saying.waits ≡ None
+            → HeedsLink self.old.source None (L.calls devices.old.link)
+            (L.calls devices.new.link) }
 
         // input may be read, unless an end is set or something waits to be said
         ensures takes { result.takes_input
@@ -325,22 +344,43 @@ impl Live {
         ensures serves { (sockets : AllSockets) → OnlyServes self.old self.new sockets sockets }
         ensures desk { self.new.desk ≡ self.old.desk }
         ensures saved { SameBeside self.old self.new }
+        // an event for the connection says that there may be more of it
+        ensures wakes { Contains events.now Ready.Link → self.old.source.reach ≢ Away
+            → self.new.source.has_more ≡ true }
+        ensures waits { self.new.screens.saying ≡ self.old.screens.saying }
     {
         for event in events {
             self.note_one(*event);
         }
+        self.note_link(events);
     }
 
-    /// Marks one of them.
+    /// Marks that the connection to a server became ready, where one of the events says so.
+    fn note_link(&mut self, events: &[Ready])
+        ensures serves { (sockets : AllSockets) → OnlyServes self.old self.new sockets sockets }
+        ensures beside { (self.new.desk ≡ self.old.desk) × SameBeside self.old self.new
+            × (self.new.screens ≡ self.old.screens) }
+        ensures wakes { Contains events.now Ready.Link → self.old.source.reach ≢ Away
+            → self.new.source.has_more ≡ true }
+    {
+        if link_is_ready(events) {
+            self.source.wake();
+        }
+    }
+
+    /// Marks one of them, where it is a screen's.
     fn note_one(&mut self, event: Ready)
         ensures serves { (sockets : AllSockets) → OnlyServes self.old self.new sockets sockets }
         ensures desk { self.new.desk ≡ self.old.desk }
         ensures saved { SameBeside self.old self.new }
+        ensures source { self.new.source ≡ self.old.source }
+        ensures waits { self.new.screens.saying ≡ self.old.screens.saying }
     {
         match event {
             // Who waits is taken at the end of the turn.
             Ready::Listener => {}
-            Ready::Link => self.source.wake(),
+            // For all of them at once.
+            Ready::Link => {}
             Ready::Screen {
                 at,
                 is_readable,
@@ -446,6 +486,18 @@ fn saved_of<D: Store>(
     } else {
         None
     }
+}
+
+/// Whether one of the events says that the connection to a server became ready.
+fn link_is_ready(events: &[Ready]) -> bool
+    ensures { Contains events.now Ready.Link → result ≡ true }
+{
+    for event in events {
+        if matches!(event, Ready::Link) {
+            return true;
+        }
+    }
+    false
 }
 
 /// Whether there is no server to be followed.

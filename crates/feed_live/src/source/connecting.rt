@@ -1,7 +1,7 @@
 //! The connection to a server: it is begun, asked and left.
 
-ghost use Rattle.std.specs.Prelude.{◌≡◌, ◌≢◌, ◌<◌, ◌⊎◌, ◌+◌, ◌%◌, ◌||◌, ◌&&◌, min, None, Some, Err, IfOk, IfSome, IsSome, drop, false, true, length, not, is_some};
-ghost use Rattle.feed_device.specs.Calls.{CalledOnce};
+ghost use Rattle.std.specs.Prelude.{◌≡◌, ◌≢◌, ◌<◌, ◌⊎◌, ◌+◌, ◌%◌, ◌||◌, ◌&&◌, ℕ, [], min, None, Some, Err, IfOk, IfSome, IsSome, drop, false, true, length, not, is_some};
+ghost use Rattle.feed_device.specs.Calls.{HasBegun, HasLooked, HasWritten, CalledAtLeastOnce, CalledSince};
 ghost use Rattle.feed_node.specs.States.{published_token};
 
 use crate::source::rechecking::token_for;
@@ -16,9 +16,11 @@ use feed_screens::Screens;
 use std::alloc::{AllocError, Global};
 
 impl Source {
+    ghost use Rattle.feed_live.specs.Calling.{HeedsLink};
+    ghost use Rattle.feed_live.specs.Times.{HeedsTime, KeepsTimes, SameTimes};
     ghost use Rattle.feed_live.specs.Relaying.{StillFollows, SameSource, SameWaiting, WasLeft, GoesOnTo, IsToConnect, servers_of, within_turn};
     ghost use Rattle.feed_live.specs.Upstream.{IsRequestOf, IsRequestWith, asked_with};
-    ghost use Rattle.feed_live.specs.Leaving.{connect_time, has_left_quiet, heard_time, is_end, is_past, late_time, newest_time, quiet_at, why_late, why_left, LeavesLate, IsToLeave, IsToMove, IsToStay, IsAtRest, ConnectsTo};
+    ghost use Rattle.feed_live.specs.Leaving.{after_loss, connect_time, has_left_quiet, heard_time, is_end, is_past, late_time, newest_time, quiet_at, why_late, why_left, LeavesLate, IsToLeave, IsToMove, IsToStay, IsAtRest, ConnectsTo};
     ghost use Rattle.feed_live.specs.declared.source.Reach.TheVariants.{Away, Connects as Connecting, Asks as Asked};
     ghost use Rattle.feed_screens.specs.declared.screens.Screens.{Screens};
 
@@ -67,25 +69,28 @@ impl Source {
         // where there is no connection, and one is due, it is begun, once; or memory ran out, and
         // the next place is asked after that
         ensures begins { IsToConnect self.old desk.old.time
-            → CalledOnce (L.begun link.old) (L.begun link.new)
-            ⊎ ((L.begun link.new ≡ L.begun link.old) × GoesOnTo self.old self.new desk.old.time) }
+            → HasBegun (L.calls link.old) (L.calls link.new)
+            ⊎ ((L.calls link.new ≡ L.calls link.old) × GoesOnTo self.old self.new desk.old.time) }
         // one that is late or silent is left; the next one may be connected to at once
         ensures leaves { IsToLeave self.old idle desk.old.time
-            → CalledOnce (L.begun link.old) (L.begun link.new) ⊎ (self.new.reach ≡ Away) }
+            → HasBegun (L.calls link.old) (L.calls link.new) ⊎ (self.new.reach ≡ Away) }
         // one that is neither, and not to be left for anything else, is followed on
         ensures stays { self.old.reach ≢ Away → IsToStay self.old idle desk.old.time
             → SameSource self.old self.new × SameWaiting self.old self.new
-            × (self.new.has_more ≡ self.old.has_more) × (L.begun link.new ≡ L.begun link.old) }
+            × (self.new.has_more ≡ self.old.has_more) × (L.calls link.new ≡ L.calls link.old) }
         // where there is no connection, and none is due yet, none is begun
         ensures pauses { self.old.reach ≡ Away → desk.old.time < self.old.upstream.since
             → SameSource self.old self.new × SameWaiting self.old self.new
-            × (self.new.has_more ≡ self.old.has_more) × (L.begun link.new ≡ L.begun link.old) }
+            × (self.new.has_more ≡ self.old.has_more) × (L.calls link.new ≡ L.calls link.old) }
         // where one is due, or was left, there is nothing to read yet
         ensures rests { IsToConnect self.old desk.old.time ⊎ IsToLeave self.old idle desk.old.time
             ⊎ IsToMove self.old idle desk.old.time → IsAtRest self.new }
         // so is one that is to be left for another reason
         ensures moves { IsToMove self.old idle desk.old.time
-            → CalledOnce (L.begun link.old) (L.begun link.new) ⊎ (self.new.reach ≡ Away) }
+            → HasBegun (L.calls link.old) (L.calls link.new) ⊎ (self.new.reach ≡ Away) }
+        ensures keeps { KeepsTimes self.old self.new desk.old.time desk.new.time }
+        // who refused the token still counts
+        ensures refused { self.new.upstream.refused ≡ self.old.upstream.refused }
     {
         self.leave_due(desk, link, idle);
         self.hear_quiet(desk);
@@ -101,7 +106,7 @@ impl Source {
             (within_turn (L.exchanges link.new) self.new self.new.rest.items screens) }
         // none is left where there is none
         ensures away { self.old.reach ≡ Away → (self.new ≡ self.old)
-            × (L.begun link.new ≡ L.begun link.old) × (desk.new.time ≡ desk.old.time) }
+            × (L.calls link.new ≡ L.calls link.old) × (desk.new.time ≡ desk.old.time) }
         // one that is late or silent is left, and the next one is asked
         ensures leaves { LeavesLate self.old self.new idle desk.old.time }
         // one that is neither, and not to be left for anything else, is followed on
@@ -119,7 +124,9 @@ impl Source {
             → (self.new.reach ≡ Away) × (self.new.upstream.since ≡ desk.old.time) }
         ensures moves { IsToMove self.old idle desk.old.time
             → (self.new.reach ≡ Away) × (self.new.has_more ≡ false) }
-        ensures calls { L.begun link.new ≡ L.begun link.old }
+        ensures calls { L.calls link.new ≡ L.calls link.old }
+        ensures heeds { HeedsTime self.old self.new desk.old.time desk.new.time }
+        ensures refused { self.new.upstream.refused ≡ self.old.upstream.refused }
     {
         if self.reach == Reach::Away {
             return;
@@ -176,10 +183,10 @@ impl Source {
             (within_turn (L.exchanges link.new) self.new self.new.rest.items screens) }
         // A connection is begun, once; or memory ran out, and the next place is asked after that.
         ensures begins { self.old.upstream.place < length self.old.places.items
-            → CalledOnce (L.begun link.old) (L.begun link.new)
-            ⊎ ((L.begun link.new ≡ L.begun link.old) × GoesOnTo self.old self.new desk.old.time) }
+            → HasBegun (L.calls link.old) (L.calls link.new)
+            ⊎ ((L.calls link.new ≡ L.calls link.old) × GoesOnTo self.old self.new desk.old.time) }
         ensures away { self.old.reach ≡ Away
-            → CalledOnce (L.begun link.old) (L.begun link.new) ⊎ (self.new.reach ≡ Away) }
+            → HasBegun (L.calls link.old) (L.calls link.new) ⊎ (self.new.reach ≡ Away) }
         // there is nothing to read yet
         ensures rests { self.old.reach ≡ Away → self.old.has_more ≡ false → IsAtRest self.new }
         ensures waits { self.old.reach ≡ Away
@@ -190,6 +197,9 @@ impl Source {
         // from now on it may be late
         ensures opened { self.old.reach ≡ Away → (self.new.reach ≡ Away)
             ⊎ ((self.new.reach ≡ Connecting desk.old.time) × (self.new.opened ≡ desk.old.time)) }
+        ensures keeps { KeepsTimes self.old self.new desk.old.time desk.new.time }
+        ensures refused { self.new.upstream.refused ≡ self.old.upstream.refused }
+        ensures heard { self.old.body_since ≡ None → self.new.is_heard ≡ self.old.is_heard }
     {
         let coming = match self.begin_afresh(desk.alloc) {
             Ok(coming) => coming,
@@ -276,9 +286,14 @@ impl Source {
     /// The server is left, and the next one is asked: after a pause where each of them failed.
     pub(crate) fn lost<L: Link>(&mut self, desk: &mut Desk, link: &mut L, why: Why)
         ensures left { WasLeft self.old self.new (L.exchanges link.old) (L.exchanges link.new) }
-        ensures calls { L.begun link.new ≡ L.begun link.old }
+        ensures calls { L.calls link.new ≡ L.calls link.old }
         ensures next { GoesOnTo self.old self.new desk.old.time }
         ensures rests { self.new.has_more ≡ false }
+        ensures heeds { HeedsTime self.old self.new desk.old.time desk.new.time }
+        // one that ended its answer sent all that it has, and counts as heard
+        ensures heard { self.new.is_heard
+            ≡ (self.old.is_heard || is_end why && is_some (heard_time self.old)) }
+        ensures returning { self.new.returning ≡ after_loss self.old.body_since self.old.returning }
     {
         let server = self.upstream.place();
         let is_reported = self.lose();
@@ -301,6 +316,10 @@ impl Source {
         ensures upstream { self.new.upstream ≡ self.old.upstream }
         ensures reported { result
             ≡ (is_some self.old.body_since || not (has_left_quiet self.old.returning)) }
+        ensures times { SameTimes self.old self.new }
+        ensures exact { self.new ≡ record self.old {
+          returning = after_loss self.old.body_since self.old.returning;
+        } }
     {
         if self.body_since.is_some() {
             self.returning.lose();
@@ -314,6 +333,8 @@ impl Source {
         ensures heard { self.new.is_heard
             ≡ (self.old.is_heard || is_end why && is_some (heard_time self.old)) }
         ensures upstream { self.new.upstream ≡ self.old.upstream }
+        ensures times { SameTimes self.old self.new }
+        ensures returning { self.new.returning ≡ self.old.returning }
     {
         if matches!(why, Why::Ended) && self.heard_at().is_some() {
             self.is_heard = true;
@@ -322,7 +343,7 @@ impl Source {
 
     pub(crate) fn leave<L: Link>(&mut self, link: &mut L, now: u64)
         ensures exchanges { L.exchanges link.new ≡ L.exchanges link.old }
-        ensures calls { L.begun link.new ≡ L.begun link.old }
+        ensures calls { L.calls link.new ≡ L.calls link.old }
         ensures servers { servers_of self.new ≡ servers_of self.old }
         ensures answers { self.new.answers ≡ self.old.answers }
         ensures upstream { self.new.upstream ≡ self.old.upstream }
@@ -330,6 +351,9 @@ impl Source {
         ensures rests { self.new.has_more ≡ false }
         ensures none { self.new.body_since ≡ None }
         ensures opened { self.new.opened ≡ self.old.opened }
+        ensures heeds { HeedsTime self.old self.new now now }
+        ensures heard { self.new.is_heard ≡ self.old.is_heard }
+        ensures returning { self.new.returning ≡ self.old.returning }
     {
         link.close();
         if self.body_since.is_some() {
@@ -348,17 +372,14 @@ impl Source {
         ensures follows { StillFollows
             (within_turn (L.exchanges link.old) self.old self.old.rest.items screens.old)
             (within_turn (L.exchanges link.new) self.new self.new.rest.items screens.new) }
+        ensures heeds { HeedsTime self.old self.new desk.old.time desk.new.time }
+        // the device is called for it
+        ensures calls { HeedsLink self.old screens.old.saying.waits (L.calls link.old)
+            (L.calls link.new) }
     {
         self.has_more = false;
-        if let Reach::Connects(_) = self.reach {
-            match link.is_open() {
-                Ok(true) => self.reach = Reach::Asks(0),
-                Ok(false) => return,
-                Err(_) => {
-                    self.lost(desk, link, Why::Refuses);
-                    return;
-                }
-            }
+        if !self.is_open(desk, link) {
+            return;
         }
         self.ask(desk, link);
         if self.reach == Reach::Reads {
@@ -366,11 +387,66 @@ impl Source {
         }
     }
 
-    /// Writes the rest of the request, where that isn't written yet.
+    /// Looks at a connection that is being made. Whether it is open, and can be written to or read.
+    fn is_open<L: Link>(&mut self, desk: &mut Desk, link: &mut L) -> bool
+        ensures follows { (screens : Screens) → StillFollows
+            (within_turn (L.exchanges link.old) self.old self.old.rest.items screens)
+            (within_turn (L.exchanges link.new) self.new self.new.rest.items screens) }
+        ensures heeds { HeedsTime self.old self.new desk.old.time desk.new.time }
+        // one that is being made is looked at once
+        ensures looks { (since : ℕ) → self.old.reach ≡ Connecting since
+            → HasLooked (L.calls link.old) (L.calls link.new) }
+        // and one that is open is as it was
+        ensures rests { ((since : ℕ) → self.old.reach ≢ Connecting since)
+            → (result ≡ true) × (self.new ≡ self.old) × (link.new ≡ link.old) }
+    {
+        let Reach::Connects(_) = self.reach else {
+            return true;
+        };
+        match link.is_open() {
+            Ok(true) => {
+                self.reach = Reach::Asks(0);
+                true
+            }
+            Ok(false) => false,
+            Err(_) => {
+                self.lost(desk, link, Why::Refuses);
+                false
+            }
+        }
+    }
+
+    /// Writes what it can of the request, where that isn't written yet.
     fn ask<L: Link>(&mut self, desk: &mut Desk, link: &mut L)
         ensures follows { (screens : Screens) → StillFollows
             (within_turn (L.exchanges link.old) self.old self.old.rest.items screens)
             (within_turn (L.exchanges link.new) self.new self.new.rest.items screens) }
+        ensures heeds { HeedsTime self.old self.new desk.old.time desk.new.time }
+        ensures looks { (L.calls link.new).looked ≡ (L.calls link.old).looked }
+        // the rest of it is offered, where there is some
+        ensures asks { (count : ℕ) → self.old.reach ≡ Asked count
+            → drop count self.old.request.items ≢ []
+            → CalledAtLeastOnce (L.calls link.old).written (L.calls link.new).written }
+        // else nothing is done
+        ensures rests { ((count : ℕ) → self.old.reach ≢ Asked count)
+            → (self.new ≡ self.old) × (link.new ≡ link.old) }
+    {
+        let Reach::Asks(count) = self.reach else {
+            return;
+        };
+        if self.ask_once(desk, link, count) {
+            self.ask_rest(desk, link);
+        }
+    }
+
+    /// Writes the rest of the request, as long as the connection takes something.
+    fn ask_rest<L: Link>(&mut self, desk: &mut Desk, link: &mut L)
+        ensures follows { (screens : Screens) → StillFollows
+            (within_turn (L.exchanges link.old) self.old self.old.rest.items screens)
+            (within_turn (L.exchanges link.new) self.new self.new.rest.items screens) }
+        ensures heeds { HeedsTime self.old self.new desk.old.time desk.new.time }
+        ensures looks { (L.calls link.new).looked ≡ (L.calls link.old).looked }
+        ensures since { CalledSince (L.calls link.old).written (L.calls link.new).written }
     {
         for _ in 0..self.request.len().saturating_add(1) {
             let Reach::Asks(count) = self.reach else {
@@ -388,6 +464,15 @@ impl Source {
             → StillFollows
             (within_turn (L.exchanges link.old) self.old self.old.rest.items screens)
             (within_turn (L.exchanges link.new) self.new self.new.rest.items screens) }
+        ensures heeds { self.old.reach ≡ Asked count
+            → HeedsTime self.old self.new desk.old.time desk.new.time }
+        ensures looks { (L.calls link.new).looked ≡ (L.calls link.old).looked }
+        ensures since { CalledSince (L.calls link.old).written (L.calls link.new).written }
+        // it is offered once, where there is some of it
+        ensures some { drop count self.old.request.items ≢ []
+            → HasWritten (L.calls link.old) (L.calls link.new) }
+        ensures none { drop count self.old.request.items ≡ []
+            → (result ≡ false) × (link.new ≡ link.old) }
     {
         let rest = behind(&self.request, count);
         if rest.is_empty() {
@@ -422,7 +507,7 @@ fn why_not(begun: Result<(), Why>) -> Why
 /// asked for again then.
 fn forget_after<L: Link>(link: &mut L, pause: u64)
     ensures exchanges { L.exchanges link.new ≡ L.exchanges link.old }
-    ensures calls { L.begun link.new ≡ L.begun link.old }
+    ensures calls { L.calls link.new ≡ L.calls link.old }
 {
     if pause >= FIRST_PAUSE {
         link.forget_addresses();

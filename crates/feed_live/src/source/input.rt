@@ -15,6 +15,7 @@ impl Source {
     ghost use Rattle.feed_live.specs.Taking.{TakesOrStops, TakesMoreOrStops, StopsSomewhere};
     ghost use Rattle.feed_screens.specs.declared.screens.Screens.{Screens};
     ghost use Rattle.feed_screens.specs.Serving.{SaysAll};
+    ghost use Rattle.feed_live.specs.Times.{SameTimes};
 
     /// The input is a feed from here on, where it feeds.
     pub(crate) fn begin_input(&mut self, feeds: bool, now: u64)
@@ -24,6 +25,7 @@ impl Source {
         ensures upstream { self.new.upstream ≡ self.old.upstream }
         ensures settling { self.new.settling ≡ self.old.settling }
         ensures heard { self.new.is_heard ≡ self.old.is_heard }
+        ensures times { SameTimes self.old self.new }
     {
         if !feeds {
             return;

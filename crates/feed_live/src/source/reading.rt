@@ -1,6 +1,7 @@
 //! The response is read, followed and said.
 
-ghost use Rattle.std.specs.Prelude.{◌≡◌, ◌≢◌, ◌+◌, ◌-◌, ◌^◌, ◌++◌, [], List, ℕ, min, OnOk, IfOk, IfErr, IfSome, IsSome, None, Bool, is_some, false, true};
+ghost use Rattle.std.specs.Prelude.{◌≡◌, ◌≢◌, ◌↔◌, IsTrue, ◌+◌, ◌-◌, ◌^◌, ◌++◌, [], List, ℕ, min, OnOk, IfOk, IfErr, IfSome, IsSome, None, Bool, is_some, false, true};
+ghost use Rattle.feed_device.specs.Calls.{HasRead, CalledAtLeastOnce, CalledSince};
 ghost use Rattle.feed_node.specs.Mirroring.{MirrorState};
 ghost use Rattle.feed_follow.specs.Following.{Fails};
 ghost use Rattle.feed_follow.specs.Standing.{Standing};
@@ -17,7 +18,8 @@ use memchr::memchr;
 use std::alloc::{AllocError, Global};
 use std::mem;
 
-/// How many reads one turn makes before the screens are served, and how many bytes each takes.
+/// How many reads one turn makes at most before the screens are served, and how many bytes each
+/// takes.
 const READS: usize = 16;
 
 const PIECE: usize = 16_384;
@@ -26,12 +28,16 @@ const PIECE: usize = 16_384;
 const LOCATION: &[u8] = b"location:";
 
 impl Source {
+    ghost use Rattle.feed_live.specs.Calling.{MayReadOn};
+    ghost use Rattle.feed_live.specs.Leaving.{HasPublishedAt};
+    ghost use Rattle.feed_node.specs.States.{published_token};
+    ghost use Rattle.feed_live.specs.Times.{HeedsTime, SameTimes};
     ghost use Rattle.feed_live.specs.Relaying.{StillFollows, SameSource, within_turn};
     ghost use Rattle.feed_live.specs.Relaying.{SameButUnread, SameWaiting, WasLeft, PushesOnly, followed_by};
     ghost use Rattle.feed_screens.specs.Serving.{StillServes, StillStand, AllEnd, SaysAll};
     ghost use Rattle.feed_live.specs.declared.source.Reach.TheVariants.{Away, Reads as Read};
 
-    /// Reads what came, so many times.
+    /// Takes what was kept, and reads what came, so many times.
     pub(crate) fn read_some<L: Link>(
         &mut self,
         desk: &mut Desk,
@@ -41,12 +47,60 @@ impl Source {
         ensures follows { self.old.reach ≡ Read → StillFollows
             (within_turn (L.exchanges link.old) self.old self.old.rest.items screens.old)
             (within_turn (L.exchanges link.new) self.new self.new.rest.items screens.new) }
+        ensures heeds { HeedsTime self.old self.new desk.old.time desk.new.time }
+        ensures looks { (L.calls link.new).looked ≡ (L.calls link.old).looked }
+        ensures written { (L.calls link.new).written ≡ (L.calls link.old).written }
+        // it is read at least once, where it may be
+        ensures reads { MayReadOn self.old screens.old.saying.waits
+            → CalledAtLeastOnce (L.calls link.old).read (L.calls link.new).read }
     {
+        self.take_kept(desk, link, screens);
+        if !self.may_read(screens) {
+            self.has_more = self.reach == Reach::Reads;
+            return;
+        }
+        if self.read(desk, link, screens) {
+            self.read_more(desk, link, screens);
+        }
+    }
+
+    /// What was kept of the response is taken.
+    fn take_kept<L: Link>(&mut self, desk: &mut Desk, link: &mut L, screens: &mut Screens)
+        ensures follows { self.old.reach ≡ Read → StillFollows
+            (within_turn (L.exchanges link.old) self.old self.old.rest.items screens.old)
+            (within_turn (L.exchanges link.new) self.new self.new.rest.items screens.new) }
+        ensures heeds { HeedsTime self.old self.new desk.old.time desk.new.time }
+        ensures calls { L.calls link.new ≡ L.calls link.old }
+        // nothing is done where nothing was kept
+        ensures nothing { self.old.rest.items ≡ []
+            → (self.new ≡ self.old) × (screens.new ≡ screens.old) }
+    {
+        if self.rest.is_empty() {
+            return;
+        }
         let rest = self.kept(desk.alloc);
         self.take(desk, link, screens, rest.as_slice());
-        for _ in 0..READS {
-            // What is kept comes before what is still to be read.
-            if !self.rest.is_empty() || screens.says_at().is_some() || self.reach != Reach::Reads {
+    }
+
+    /// Whether the response may be read on: what is kept comes before what is still to be read.
+    fn may_read(&self, screens: &Screens) -> bool
+        ensures { IsTrue result ↔ MayReadOn self.now screens.now.saying.waits }
+    {
+        self.rest.is_empty() && screens.says_at().is_none() && self.reach == Reach::Reads
+    }
+
+    /// Reads on, as often as a turn may.
+    fn read_more<L: Link>(&mut self, desk: &mut Desk, link: &mut L, screens: &mut Screens)
+        ensures follows { StillFollows
+            (within_turn (L.exchanges link.old) self.old self.old.rest.items screens.old)
+            (within_turn (L.exchanges link.new) self.new self.new.rest.items screens.new) }
+        ensures heeds { HeedsTime self.old self.new desk.old.time desk.new.time }
+        ensures looks { (L.calls link.new).looked ≡ (L.calls link.old).looked }
+        ensures written { (L.calls link.new).written ≡ (L.calls link.old).written }
+        ensures since { CalledSince (L.calls link.old).read (L.calls link.new).read }
+    {
+        for _ in 1..READS {
+            if !self.may_read(screens) {
                 break;
             }
             if !self.read(desk, link, screens) {
@@ -62,6 +116,8 @@ impl Source {
             → StillFollows
             (within_turn (L.exchanges link.old) self.old [] screens.old)
             (within_turn (L.exchanges link.new) self.new self.new.rest.items screens.new) }
+        ensures heeds { HeedsTime self.old self.new desk.old.time desk.new.time }
+        ensures calls { HasRead (L.calls link.old) (L.calls link.new) }
     {
         let mut buf = [0u8; PIECE];
         match link.read(&mut buf) {
@@ -92,6 +148,8 @@ impl Source {
             → StillFollows
             (within_turn (L.exchanges link.old) self.old piece.now screens.old)
             (within_turn (L.exchanges link.new) self.new self.new.rest.items screens.new) }
+        ensures heeds { HeedsTime self.old self.new desk.old.time desk.new.time }
+        ensures calls { L.calls link.new ≡ L.calls link.old }
     {
         let mut rest = piece;
         for _ in 0..piece.len() {
@@ -113,6 +171,7 @@ impl Source {
     pub(crate) fn keep(&mut self, rest: &[u8]) -> Result<(), AllocError>
         ensures ok { OnOk result (self.new.rest.items ≡ self.old.rest.items ++ rest.now) }
         ensures same { SameButUnread self.old self.new }
+        ensures times { SameTimes self.old self.new }
     {
         self.rest.extend_from_slice(rest)
     }
@@ -122,6 +181,7 @@ impl Source {
         ensures kept { result.items ≡ self.old.rest.items }
         ensures rest { self.new.rest.items ≡ [] }
         ensures same { SameButUnread self.old self.new }
+        ensures times { SameTimes self.old self.new }
     {
         mem::replace(&mut self.rest, Vec::new(alloc))
     }
@@ -144,6 +204,8 @@ impl Source {
             → (left : List ℕ) → StillFollows
             (within_turn (L.exchanges link.old) self.old piece.entry.now screens.old)
             (within_turn (L.exchanges link.new) self.new left screens.new)) }
+        ensures heeds { HeedsTime self.old self.new desk.old.time desk.new.time }
+        ensures calls { L.calls link.new ≡ L.calls link.old }
     {
         if self.is_noted_replay(piece) {
             self.ignored(desk, link);
@@ -154,7 +216,8 @@ impl Source {
 
     /// What a head says of where the feed is, is noted. Whether the piece begins a replay.
     fn is_noted_replay(&mut self, piece: &[u8]) -> bool
-        ensures { SameSource self.old self.new }
+        ensures same { SameSource self.old self.new }
+        ensures times { SameTimes self.old self.new }
     {
         if self.body_since.is_none() {
             if let Some(location) = location_of(piece) {
@@ -165,7 +228,9 @@ impl Source {
     }
 
     /// Reports more of a fault: where the feed is said to be, or the line that can't be followed.
-    fn report_fault(&self, desk: &mut Desk, fault: FollowFault, line: &[u8]) {
+    fn report_fault(&self, desk: &mut Desk, fault: FollowFault, line: &[u8])
+        ensures { desk.new.time ≡ desk.old.time }
+    {
         if self.returning.has_left_quiet() {
             return;
         }
@@ -200,6 +265,8 @@ impl Source {
             → (left : List ℕ) → StillFollows
             (within_turn (L.exchanges link.old) self.old piece.entry.now screens.old)
             (within_turn (L.exchanges link.new) self.new left screens.new)) }
+        ensures heeds { HeedsTime self.old self.new desk.old.time desk.new.time }
+        ensures calls { L.calls link.new ≡ L.calls link.old }
     {
         let (line, next) = line_or_part(piece);
         match self.push(desk, line) {
@@ -248,6 +315,7 @@ impl Source {
             → IfErr result (λ fault. (had_token : Bool) × (had_token ≡ is_some start.since)
             × Fails start had_token before line.now (followed_by self.new) fault) }
         ensures only { PushesOnly self.old self.new }
+        ensures heeds { HeedsTime self.old self.new desk.now.time desk.now.time }
     {
         match &mut self.coming {
             Some(coming) => self.upstream.take(desk.alloc, coming, line, desk.time),
@@ -263,6 +331,8 @@ impl Source {
     fn refused<L: Link>(&mut self, desk: &mut Desk, link: &mut L)
         ensures left { WasLeft self.old self.new (L.exchanges link.old) (L.exchanges link.new) }
         ensures at_once { self.new.upstream.since ≡ desk.old.time }
+        ensures heeds { HeedsTime self.old self.new desk.old.time desk.new.time }
+        ensures calls { L.calls link.new ≡ L.calls link.old }
     {
         if self.rechecking.is_going() {
             self.ask_newest(link, desk.time);
@@ -280,6 +350,8 @@ impl Source {
     pub(crate) fn without_token<L: Link>(&mut self, link: &mut L, now: u64)
         ensures left { WasLeft self.old self.new (L.exchanges link.old) (L.exchanges link.new) }
         ensures at_once { self.new.upstream.since ≡ now }
+        ensures heeds { HeedsTime self.old self.new now now }
+        ensures calls { L.calls link.new ≡ L.calls link.old }
     {
         self.leave(link, now);
         self.figures.refuse_token(now);
@@ -289,7 +361,8 @@ impl Source {
 
     /// The server answers with the feed.
     fn found(&mut self, desk: &mut Desk)
-        ensures { SameSource self.old self.new }
+        ensures same { SameSource self.old self.new }
+        ensures heeds { HeedsTime self.old self.new desk.old.time desk.new.time }
     {
         if self.body_since.is_some() {
             return;
@@ -323,6 +396,14 @@ impl Source {
         ensures stays { self.old.is_fresh ≡ false → self.new.epoch ≡ self.old.epoch }
         ensures says { self.old.coming ≡ None
             → SaysAll screens.new self.new.answers.shown.mirror.node desk.new.time }
+        ensures heeds { HeedsTime self.old self.new desk.old.time desk.new.time }
+        // what was published is news, and counts, where the feed goes on; where nothing was, nothing does
+        ensures news { self.old.coming ≡ None → self.old.is_fresh ≡ false
+            → screens.old.hub.broadcast.told ≢ published_token self.old.answers.shown.mirror.node
+            → HasPublishedAt self.new desk.old.time }
+        ensures none { self.old.coming ≡ None → self.old.is_fresh ≡ false
+            → screens.old.hub.broadcast.told ≡ published_token self.old.answers.shown.mirror.node
+            → SameWaiting self.old self.new × (self.new.is_heard ≡ self.old.is_heard) }
     {
         self.report_twice(desk);
         if self.coming.is_some() {
@@ -349,6 +430,7 @@ impl Source {
         // else nothing ends
         ensures stays { self.old.is_fresh ≡ false
             → (self.new ≡ self.old) × (screens.new ≡ screens.old) }
+        ensures times { SameTimes self.old self.new }
     {
         if self.is_fresh && self.answers.shown.mirror().since().is_some() {
             self.is_fresh = false;
@@ -362,6 +444,9 @@ impl Source {
         ensures same { SameSource self.old self.new }
         ensures epoch { self.new.epoch ≡ self.old.epoch }
         ensures fresh { self.new.is_fresh ≡ self.old.is_fresh }
+        ensures waits { SameWaiting self.old self.new }
+        ensures heard { self.new.is_heard ≡ self.old.is_heard }
+        ensures heeds { HeedsTime self.old self.new desk.old.time desk.new.time }
     {
         if self.has_reported_twice {
             return;

@@ -68,7 +68,7 @@ pub(crate) struct Rechecking {
     /// What comes, until it has come.
     again: Option<Again>,
     /// It came last.
-    has_come: bool,
+    came_again: bool,
     /// The server does not hold the token before the newest: it is asked with that.
     asks_newest: bool,
     /// A server has another one, and nothing was published since then.
@@ -80,7 +80,7 @@ impl Rechecking {
         ensures { result ≡ record {
           is_on = is_on;
           again = None;
-          has_come = false;
+          came_again = false;
           asks_newest = false;
           is_doubted = false;
         } }
@@ -88,7 +88,7 @@ impl Rechecking {
         Rechecking {
             is_on,
             again: None,
-            has_come: false,
+            came_again: false,
             asks_newest: false,
             is_doubted: false,
         }
@@ -100,23 +100,23 @@ impl Rechecking {
         ensures { self.new ≡ record {
           is_on = self.old.is_on;
           again = again;
-          has_come = false;
+          came_again = false;
           asks_newest = false;
           is_doubted = self.old.is_doubted && not is_fresh;
         } }
     {
         self.is_doubted = self.is_doubted && !is_fresh;
         self.again = again;
-        self.has_come = false;
+        self.came_again = false;
         self.asks_newest = false;
     }
 
     /// The connection is over.
     pub(crate) fn leave(&mut self)
-        ensures { self.new ≡ record self.old { again = None; has_come = false } }
+        ensures { self.new ≡ record self.old { again = None; came_again = false } }
     {
         self.again = None;
-        self.has_come = false;
+        self.came_again = false;
     }
 
     /// It failed: the next server is asked.
@@ -200,6 +200,7 @@ pub(crate) fn token_for<'a>(mirror: &'a Mirror, is_again: bool) -> Option<&'a st
 }
 
 impl Source {
+    ghost use Rattle.feed_live.specs.Times.{HeedsTime, SameTimes};
     ghost use Rattle.feed_live.specs.Relaying.{StillFollows, SameSource, WasLeft, within_turn};
     ghost use Rattle.feed_live.specs.Leaving.{is_past, is_to_recheck, newest_time};
     ghost use Rattle.feed_live.specs.declared.source.Reach.TheVariants.{Away, Reads as Read};
@@ -226,8 +227,9 @@ impl Source {
     fn brings_another(&mut self, alloc: Global, piece: &[u8]) -> bool
         ensures same { SameSource self.old self.new }
         ensures epoch { self.new.epoch ≡ self.old.epoch }
+        ensures times { SameTimes self.old self.new }
     {
-        self.rechecking.has_come = false;
+        self.rechecking.came_again = false;
         let Some(again) = &mut self.rechecking.again else {
             return false;
         };
@@ -241,7 +243,7 @@ impl Source {
             Brought::Nothing => false,
             Brought::Newest => {
                 self.rechecking.again = None;
-                self.rechecking.has_come = true;
+                self.rechecking.came_again = true;
                 false
             }
             Brought::Another => {
@@ -256,8 +258,9 @@ impl Source {
     fn differs_again(&mut self) -> bool
         ensures same { SameSource self.old self.new }
         ensures epoch { self.new.epoch ≡ self.old.epoch }
+        ensures times { SameTimes self.old self.new }
     {
-        if !self.rechecking.has_come {
+        if !self.rechecking.came_again {
             return false;
         }
         if given_twice(self.answers.shown.mirror()).is_some() {
@@ -296,8 +299,10 @@ impl Source {
     pub(crate) fn ask_newest<L: Link>(&mut self, link: &mut L, now: u64)
         ensures left { WasLeft self.old self.new (L.exchanges link.old) (L.exchanges link.new) }
         ensures rests { self.new.has_more ≡ false }
-        ensures calls { L.begun link.new ≡ L.begun link.old }
+        ensures calls { L.calls link.new ≡ L.calls link.old }
         ensures at_once { self.new.upstream.since ≡ now }
+        ensures heeds { HeedsTime self.old self.new now now }
+        ensures refused { self.new.upstream.refused ≡ self.old.upstream.refused }
     {
         self.rechecking.refuse();
         self.ask_again(link, now);
@@ -308,6 +313,8 @@ impl Source {
     fn forgot<L: Link>(&mut self, desk: &mut Desk, link: &mut L)
         ensures left { WasLeft self.old self.new (L.exchanges link.old) (L.exchanges link.new) }
         ensures at_once { self.new.upstream.since ≡ desk.old.time }
+        ensures heeds { HeedsTime self.old self.new desk.old.time desk.new.time }
+        ensures calls { L.calls link.new ≡ L.calls link.old }
     {
         if let Some(token) = self.answers.shown.node().token() {
             let forgot = Report::Forgot {
@@ -338,6 +345,8 @@ impl Source {
             → (left : List ℕ) → StillFollows
             (within_turn (L.exchanges link.old) self.old piece.entry.now screens.old)
             (within_turn (L.exchanges link.new) self.new left screens.new)) }
+        ensures heeds { HeedsTime self.old self.new desk.old.time desk.new.time }
+        ensures calls { L.calls link.new ≡ L.calls link.old }
     {
         if self.brings_another(desk.alloc, piece) {
             self.forgot(desk, link);

@@ -105,6 +105,7 @@ impl Returning {
 }
 
 impl Source {
+    ghost use Rattle.feed_live.specs.Times.{HeedsTime};
     ghost use Rattle.feed_live.specs.Relaying.{WasLeft};
 
     /// When a server is left that has nothing new, where there are others. Once all were left for
@@ -142,7 +143,7 @@ impl Source {
     /// fail: the pauses stay as they are, and so does what is counted of failures.
     pub(crate) fn leave_quiet<L: Link>(&mut self, desk: &mut Desk, link: &mut L)
         ensures left { WasLeft self.old self.new (L.exchanges link.old) (L.exchanges link.new) }
-        ensures calls { L.begun link.new ≡ L.begun link.old }
+        ensures calls { L.calls link.new ≡ L.calls link.old }
         ensures rests { self.new.has_more ≡ false }
         ensures next { self.new.upstream.place
             ≡ min (self.old.upstream.place + 1) u64.MAX % self.old.upstream.places }
@@ -150,6 +151,7 @@ impl Source {
         ensures pause { self.new.upstream.pause ≡ self.old.upstream.pause }
         ensures counts { (self.new.upstream.failed ≡ self.old.upstream.failed)
             × (self.new.upstream.refused ≡ self.old.upstream.refused) }
+        ensures heeds { HeedsTime self.old self.new desk.old.time desk.new.time }
     {
         let server = self.upstream.place();
         let is_reported = self.returning.leave_quiet(self.places.len());

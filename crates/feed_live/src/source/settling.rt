@@ -2,10 +2,10 @@
 //! have a token on each line send all that ever happened, or all that there is, line by line. No
 //! state but the last one of that is to be shown.
 
-ghost use Rattle.std.specs.Prelude.{◌≡◌, ◌<◌, ◌≤◌, ◌&&◌, None, Some, IfOk, IfSome, not, is_none, option_map, if◌then◌else◌, is_some, false, true};
+ghost use Rattle.std.specs.Prelude.{◌≡◌, ◌↔◌, IsTrue, ◌<◌, ◌≤◌, ◌&&◌, None, Some, IfOk, IfSome, not, is_none, option_map, if◌then◌else◌, is_some, false, true};
 ghost use Rattle.feed_hub.specs.Upstream.{later};
 ghost use Rattle.feed_node.specs.States.{published_token};
-ghost use Rattle.feed_live.specs.Afresh.{goes_on_from, has_come, have_one_token, holds_it, is_at_shown};
+ghost use Rattle.feed_live.specs.Afresh.{Compares, HaveOneState, goes_on_from, has_come, have_one_token, holds_it, is_at_shown};
 ghost use Rattle.feed_device.specs.Links.{shown_so, all_from};
 ghost use Rattle.feed_node.specs.Mirroring.{new_mirror};
 ghost use Rattle.feed_live.specs.Relaying.{following_mirror};
@@ -65,7 +65,7 @@ impl Settling {
             × (result.is_strange ≡ is_strange) }
         ensures nothing { (result.is_begun ≡ false) × (result.bytes ≡ 0) × (result.lines ≡ 0)
             × (result.is_within ≡ false) × (result.is_compared ≡ false)
-            × (result.is_same ≡ false) × (result.was_alone ≡ false) }
+            × (result.is_same ≡ false) × (result.was_alone ≡ false) × (result.began ≡ 0) }
     {
         Settling {
             pause,
@@ -163,7 +163,7 @@ impl Settling {
     }
 
     /// When it is shown as far as it has come.
-    fn late_at(&self) -> u64
+    fn shown_by(&self) -> u64
         ensures { result ≡ later self.now.began 600000 }
     {
         self.began.saturating_add(LONGEST_REPLAY)
@@ -184,7 +184,7 @@ pub(crate) fn followed_of<'a>(coming: &'a Option<Mirror>, shown: &'a Mirror) -> 
 pub(crate) fn begin_shown<L: Link>(link: &mut L, coming: &Option<Mirror>)
     ensures shown { L.exchanges link.new ≡ (if is_none coming.now
         then option_map (shown_so all_from 0) (L.exchanges link.old) else L.exchanges link.old) }
-    ensures calls { L.begun link.new ≡ L.begun link.old }
+    ensures calls { L.calls link.new ≡ L.calls link.old }
 {
     if coming.is_none() {
         link.show_all(0);
@@ -202,7 +202,9 @@ fn are_at_one(one: &Node, other: &Node) -> bool
 }
 
 /// Whether both show the same tables.
-fn have_one_state(one: &Node, other: &Node) -> bool {
+fn have_one_state(one: &Node, other: &Node) -> bool
+    ensures { IsTrue result ↔ HaveOneState one.now.shown other.now.shown }
+{
     match (one.published(), other.published()) {
         (Some(one), Some(other)) => one.same(other),
         _ => false,
@@ -229,6 +231,7 @@ fn differ_at(alloc: Global, one: &Node, other: &Node) -> (Excerpt, Excerpt) {
 }
 
 impl Source {
+    ghost use Rattle.feed_live.specs.Times.{HeedsTime, SameTimes};
     ghost use Rattle.feed_live.specs.Relaying.{SameSource};
     ghost use Rattle.feed_live.specs.Answering.{is_first_start, is_to_settle};
 
@@ -250,6 +253,8 @@ impl Source {
     pub(crate) fn compare(&mut self, desk: &mut Desk)
         ensures same { SameSource self.old self.new }
         ensures epoch { self.new.epoch ≡ self.old.epoch }
+        ensures heeds { HeedsTime self.old self.new desk.old.time desk.new.time }
+        ensures compares { IfSome self.old.coming (Compares self.old self.new) }
     {
         let Some(coming) = &self.coming else {
             return;
@@ -285,7 +290,7 @@ impl Source {
         if self.is_at_shown() {
             return None;
         }
-        let late = self.settling.late_at();
+        let late = self.settling.shown_by();
         if self.has_more || !self.rest.is_empty() {
             return Some(late);
         }
@@ -324,7 +329,8 @@ impl Source {
 
     /// Reports how much has come, where it has not settled for long.
     fn report_coming(&mut self, desk: &mut Desk)
-        ensures { SameSource self.old self.new }
+        ensures same { SameSource self.old self.new }
+        ensures heeds { HeedsTime self.old self.new desk.old.time desk.new.time }
     {
         let Some(at) = self.reports_at() else {
             return;
@@ -370,7 +376,8 @@ impl Source {
 
     /// Such a server is followed: nothing is to settle.
     fn note_at_shown(&mut self, now: u64)
-        ensures { SameSource self.old self.new }
+        ensures same { SameSource self.old self.new }
+        ensures times { SameTimes self.old self.new }
     {
         if self.is_at_shown() {
             self.figures.change(Following::Answered, now);
@@ -398,7 +405,8 @@ impl Source {
     /// that line is also the first one of all that a server sent before: then it ignores the token.
     /// Of a body that comes afresh the first line is noted.
     pub(crate) fn is_replay(&mut self, piece: &[u8]) -> bool
-        ensures { SameSource self.old self.new }
+        ensures same { SameSource self.old self.new }
+        ensures times { SameTimes self.old self.new }
     {
         if !self.is_at_start || piece.first() != Some(&b'{') {
             return false;

@@ -2,7 +2,7 @@
 
 ghost use Rattle.std.specs.Prelude.{◌≡◌, ◌≢◌, ◌<◌, ◌⊎◌, [], List, ℕ, ◌≤◌, Some, Contains, IfSome, is_some, false, true, None};
 ghost use Rattle.feed_node.specs.States.{NodeState};
-ghost use Rattle.feed_device.specs.Calls.{CalledOnce, CalledAtLeastOnce};
+ghost use Rattle.feed_device.specs.Calls.{HasBegun, CalledAtLeastOnce};
 ghost use Rattle.feed_device.specs.Files.{IsKnown};
 ghost use Rattle.feed_device.specs.Links.{Exchanges};
 ghost use Rattle.feed_device.specs.Sockets.{AllSockets};
@@ -13,6 +13,8 @@ use feed_device::{Link, Report, Store};
 
 impl Live {
     ghost use Rattle.feed_live.specs.Relaying.{StillRelaying, OnlyServes, SameEnd, SameWaiting, IsToConnect};
+    ghost use Rattle.feed_live.specs.Calling.{HeedsLink};
+    ghost use Rattle.feed_live.specs.Times.{KeepsTimes};
     ghost use Rattle.feed_live.specs.Leaving.{BeginsOne, IsAtRest, IsToLeave, IsToMove, IsToStay};
     ghost use Rattle.feed_live.specs.declared.source.Reach.TheVariants.{Away};
     ghost use Rattle.feed_live.specs.Ending.{EndsWithInput};
@@ -33,6 +35,7 @@ impl Live {
         ensures serves { (sockets : AllSockets) → OnlyServes self.old self.new sockets sockets }
         ensures saved { SameBeside self.old self.new }
         ensures desk { self.new.desk ≡ self.old.desk }
+        ensures nothing { self.old.screens.saying.waits ≡ None → self.new ≡ self.old }
     {
         if self.screens.says_now(self.desk.time) {
             self.source.say_more(&self.desk, &mut self.screens);
@@ -52,6 +55,8 @@ impl Live {
         // where it is no feed, only its end counts
         ensures apart { self.old.feeds ≡ false → (self.new.source ≡ self.old.source)
             × (self.new.desk.time ≡ self.old.desk.time) }
+        ensures nothing { self.old.feeds ≡ false → self.new.ends_at ≡ None
+            → self.new.screens ≡ self.old.screens }
     {
         match input {
             Input::Nothing => self.feed(&[]),
@@ -94,6 +99,7 @@ impl Live {
             → AllEnd self.new.screens.hub }
         ensures apart { self.old.feeds ≡ false → (self.new.source ≡ self.old.source)
             × (self.new.desk.time ≡ self.old.desk.time) }
+        ensures nothing { self.new.ends_at ≡ None → self.new.screens ≡ self.old.screens }
     {
         if self.feeds {
             self.desk.reports.add(Report::EndOfInput);
@@ -120,28 +126,37 @@ impl Live {
         // where a connection is due, it is begun, once; or memory ran out, and the next place is
         // asked after that
         ensures begins { self.old.ends_at ≡ None → IsToConnect self.old.source self.old.desk.time
-            → BeginsOne (L.begun link.old) (L.begun link.new) self.old.source self.new.source
+            → BeginsOne (L.calls link.old) (L.calls link.new) self.old.source self.new.source
             self.old.desk.time }
         // where there is no connection, and none is due yet, none is begun
         ensures pauses { self.old.source.reach ≡ Away → self.old.source.has_more ≡ false
             → self.old.desk.time < self.old.source.upstream.since
-            → L.begun link.new ≡ L.begun link.old }
+            → L.calls link.new ≡ L.calls link.old }
         // one that is late or silent is left; the next one may be connected to at once
         ensures leaves { self.old.ends_at ≡ None → self.old.source.places.items ≢ []
             → IsToLeave self.old.source self.old.limits.screens.idle self.old.desk.time
-            → CalledOnce (L.begun link.old) (L.begun link.new)
+            → HasBegun (L.calls link.old) (L.calls link.new)
             ⊎ (self.new.source.reach ≡ Away) }
         // so is one that has nothing new for long, or is to be asked with the newest token
         ensures moves { self.old.ends_at ≡ None → self.old.source.places.items ≢ []
             → IsToMove self.old.source self.old.limits.screens.idle self.old.desk.time
-            → CalledOnce (L.begun link.old) (L.begun link.new)
+            → HasBegun (L.calls link.old) (L.calls link.new)
             ⊎ (self.new.source.reach ≡ Away) }
         // no other one is left before it is read
         ensures stays { self.old.ends_at ≡ None → self.old.source.reach ≢ Away
             → IsAtRest self.old.source
             → IsToStay self.old.source self.old.limits.screens.idle self.old.desk.time
             → SameWaiting self.old.source self.new.source
-            × (L.begun link.new ≡ L.begun link.old) }
+            × (L.calls link.new ≡ L.calls link.old) }
+        // no time that is kept of servers is put off
+        ensures keeps { KeepsTimes self.old.source self.new.source self.old.desk.time
+            self.new.desk.time }
+        // the connection is called, where there is more of it
+        ensures heeds { self.old.ends_at ≡ None → self.old.source.places.items ≢ []
+            → self.old.source.reach ≢ Away → self.old.source.has_more ≡ true
+            → IsToStay self.old.source self.old.limits.screens.idle self.old.desk.time
+            → self.old.screens.saying.waits ≡ None
+            → HeedsLink self.old.source None (L.calls link.old) (L.calls link.new) }
     {
         if self.ends_at.is_some() || !self.source.has_servers() {
             return;
@@ -163,7 +178,11 @@ impl Live {
         ensures saved { SameBeside self.old self.new }
         ensures ends { SameEnd self.old self.new }
         ensures rests { IsAtRest self.old.source
-            → (self.new.source ≡ self.old.source) × (L.begun link.new ≡ L.begun link.old) }
+            → (self.new.source ≡ self.old.source) × (L.calls link.new ≡ L.calls link.old) }
+        ensures keeps { KeepsTimes self.old.source self.new.source self.old.desk.time
+            self.new.desk.time }
+        ensures heeds { self.old.source.has_more ≡ true → self.old.screens.saying.waits ≡ None
+            → HeedsLink self.old.source None (L.calls link.old) (L.calls link.new) }
     {
         if self.source.has_more() && self.screens.says_at().is_none() {
             self.source.go_on(&mut self.desk, link, &mut self.screens);
@@ -176,8 +195,10 @@ impl Live {
             (L.exchanges link.old) (L.exchanges link.new) sockets sockets }
         ensures saved { SameBeside self.old self.new }
         ensures ends { SameEnd self.old self.new }
-        ensures rests { IsAtRest self.old.source
-            → (self.new.source ≡ self.old.source) × (L.begun link.new ≡ L.begun link.old) }
+        ensures rests { IsAtRest self.old.source → self.new.source ≡ self.old.source }
+        ensures keeps { KeepsTimes self.old.source self.new.source self.old.desk.time
+            self.new.desk.time }
+        ensures calls { L.calls link.new ≡ L.calls link.old }
     {
         self.source
             .settle_due(&mut self.desk, link, &mut self.screens);

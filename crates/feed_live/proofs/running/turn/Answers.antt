@@ -18,6 +18,7 @@ returns g c =
       says = c.turn.ensures.says;
       awake = c.turn.ensures.awake;
       due = c.turn.ensures.due;
+      keeps = c.turn.ensures.keeps;
       ends = c.turn.ensures.ends;
       takes = c.turn.ensures.takes;
       over = c.turn.ensures.over;

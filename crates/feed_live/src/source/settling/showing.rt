@@ -33,6 +33,7 @@ fn alone(alloc: Global, mirror: &Mirror) -> Result<Mirror, AllocError>
 }
 
 impl Source {
+    ghost use Rattle.feed_live.specs.Times.{HeedsTime, SameTimes};
     ghost use Rattle.feed_live.specs.Relaying.{StillFollows, StillShows, SameSource, WasLeft, IsNowShown, ShowsAlone, counted_within_turn, within_turn};
     ghost use Rattle.feed_live.specs.declared.source.Reach.TheVariants.{Reads as Read};
 
@@ -47,8 +48,9 @@ impl Source {
             (within_turn (L.exchanges link.old) self.old self.old.rest.items screens.old)
             (within_turn (L.exchanges link.new) self.new self.new.rest.items screens.new) }
         // nothing settles where no response is read
-        ensures stays { self.old.reach ≢ Read → (self.new ≡ self.old)
-            × (L.begun link.new ≡ L.begun link.old) }
+        ensures stays { self.old.reach ≢ Read → self.new ≡ self.old }
+        ensures heeds { HeedsTime self.old self.new desk.old.time desk.new.time }
+        ensures calls { L.calls link.new ≡ L.calls link.old }
     {
         if self.reach != Reach::Reads {
             return;
@@ -88,6 +90,8 @@ impl Source {
         ensures shows { StillShows
             (counted_within_turn (L.exchanges link.old) self.old unread screens.old)
             self.new (L.exchanges link.new) screens.new }
+        ensures heeds { HeedsTime self.old self.new desk.old.time desk.new.time }
+        ensures calls { L.calls link.new ≡ L.calls link.old }
     {
         if self.ends_again() {
             self.settle(desk, link, screens, unread);
@@ -96,7 +100,8 @@ impl Source {
 
     /// Whether what came afresh ended where it did the last time; its last token is noted.
     fn ends_again(&mut self) -> bool
-        ensures { SameSource self.old self.new }
+        ensures same { SameSource self.old self.new }
+        ensures times { SameTimes self.old self.new }
     {
         let token = match &self.coming {
             Some(coming) => coming.node().token(),
@@ -132,6 +137,8 @@ impl Source {
             (within_turn (L.exchanges link.old) self.old left screens.old)
             (within_turn (L.exchanges link.new) self.new left screens.new) }
         ensures rest { result ≡ None → self.new.rest.items ≡ self.old.rest.items }
+        ensures heeds { HeedsTime self.old self.new desk.old.time desk.new.time }
+        ensures calls { L.calls link.new ≡ L.calls link.old }
     {
         if !self.has_published() {
             return None;
@@ -158,6 +165,8 @@ impl Source {
         ensures shows { StillShows
             (counted_within_turn (L.exchanges link.old) self.old unread screens.old)
             self.new (L.exchanges link.new) screens.new }
+        ensures heeds { HeedsTime self.old self.new desk.old.time desk.new.time }
+        ensures calls { L.calls link.new ≡ L.calls link.old }
     {
         link.show_once(unread);
         if self.show_alone(desk.alloc).is_err() {
@@ -169,7 +178,8 @@ impl Source {
 
     /// Screens go on, where they may: what comes is no fresh publication to them.
     fn keep_screens(&mut self)
-        ensures { SameSource self.old self.new }
+        ensures same { SameSource self.old self.new }
+        ensures times { SameTimes self.old self.new }
     {
         self.settling.was_alone = false;
         if self.goes_on() {
@@ -179,7 +189,8 @@ impl Source {
     }
 
     fn report_settled(&mut self, desk: &mut Desk)
-        ensures { SameSource self.old self.new }
+        ensures same { SameSource self.old self.new }
+        ensures heeds { HeedsTime self.old self.new desk.old.time desk.new.time }
     {
         self.figures.change(Following::Answered, desk.time);
         desk.reports.add(Report::Settled {
@@ -202,7 +213,8 @@ impl Source {
 
     /// What came afresh is shown from here on, and goes on to follow.
     fn show(&mut self)
-        ensures { IsNowShown self.old self.new }
+        ensures shows { IsNowShown self.old self.new }
+        ensures times { SameTimes self.old self.new }
     {
         if let Some(coming) = self.coming.take() {
             *self.answers.shown.change() = coming;
@@ -211,7 +223,8 @@ impl Source {
 
     /// What came afresh is shown at its own token alone, and nothing follows.
     fn show_alone(&mut self, alloc: Global) -> Result<(), AllocError>
-        ensures { ShowsAlone self.old self.new }
+        ensures shows { ShowsAlone self.old self.new }
+        ensures times { SameTimes self.old self.new }
     {
         if let Some(coming) = &self.coming {
             let alone = alone(alloc, coming)?;
@@ -226,8 +239,10 @@ impl Source {
     pub(crate) fn ask_again<L: Link>(&mut self, link: &mut L, now: u64)
         ensures left { WasLeft self.old self.new (L.exchanges link.old) (L.exchanges link.new) }
         ensures rests { self.new.has_more ≡ false }
-        ensures calls { L.begun link.new ≡ L.begun link.old }
+        ensures calls { L.calls link.new ≡ L.calls link.old }
         ensures at_once { self.new.upstream.since ≡ now }
+        ensures heeds { HeedsTime self.old self.new now now }
+        ensures refused { self.new.upstream.refused ≡ self.old.upstream.refused }
     {
         self.leave(link, now);
         self.figures.change(Following::Away, now);
@@ -241,6 +256,8 @@ impl Source {
     pub(crate) fn ignored<L: Link>(&mut self, desk: &mut Desk, link: &mut L)
         ensures left { WasLeft self.old self.new (L.exchanges link.old) (L.exchanges link.new) }
         ensures at_once { self.new.upstream.since ≡ desk.old.time }
+        ensures heeds { HeedsTime self.old self.new desk.old.time desk.new.time }
+        ensures calls { L.calls link.new ≡ L.calls link.old }
     {
         desk.reports.add(Report::Ignores {
             server: self.upstream.place(),

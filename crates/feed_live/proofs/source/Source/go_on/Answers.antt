@@ -1,45 +1,73 @@
-use Rattle.std.specs.Prelude.{is_none}
-use Rattle.std.proofs.Common.{rules, ◌≡◌, sym, ap, subst, ℕ, List}
-use Rattle.feed_device.specs.Links.{Exchanges}
-use Rattle.feed_screens.specs.declared.screens.Screens.{Screens}
-use Rattle.feed_live.specs.Relaying.{WithinTurn, StillFollows, followed_by, within_turn}
-use Rattle.feed_live.specs.declared.source.Reach.TheVariants.{Reads}
-use Rattle.feed_live.specs.declared.source.Source.{Source}
-use Rattle.feed_live.proofs.SourceLemmas.{with_open}
-use Rattle.feed_live.proofs.RelayLemmas.{within}
+use Rattle.std.proofs.Common.{◌≡◌, ◌≢◌, ◌∙◌, refl, sym, ap, subst, drop, rules}
+use Rattle.std.specs.Prelude.{true, false}
+use Rattle.feed_device.specs.Calls.{CalledOnce, CalledAtLeastOnce}
+use Rattle.feed_live.specs.declared.source.Reach.TheVariants.{Connects, Asks, Reads}
+use Rattle.feed_live.proofs.TimesLemmas.{heeds_then, heeds_same}
 use Rattle.feed_live.proofs.source.Source.go_on.Goals as goal
-use Rattle.feed_live.proofs.source.Source.go_on.Goals.{in-Connects+in-Ok-true, in_default}
 
--- it is this source, with these exchanges
-follows_at : (before : WithinTurn (List ℕ)) (first last : Source) (exchanges later : Exchanges) (screens : Screens) → last ≡ first → later ≡ exchanges
-    → StillFollows before (within_turn exchanges first first.rest.items screens) → StillFollows before (within_turn later last last.rest.items screens)
-follows_at before first last exchanges later screens is same follows =
-    subst (λ e. StillFollows before (within_turn e last last.rest.items screens)) (sym same)
-    (subst (λ s. StillFollows before (within_turn exchanges s s.rest.items screens)) (sym is) follows)
+pub returns-then-not-is_open-clause-follows : goal.returns-then-not-is_open-clause-follows
+returns-then-not-is_open-clause-follows g c = λ limits log servers contest sockets follows. c.is_open.ensures.follows c.args.screens.now limits log servers contest sockets follows
 
-pub returns-then-eq : goal.returns-then-eq
-returns-then-eq g c =
-    let reads : c.ask.new.self.reach ≡ Reads = search rules in
-    let opened : StillFollows (within_turn (g.L.Link.exchanges c.args.link.now) c.args.self.now c.args.self.now.rest.items c.args.screens.now) (within_turn (g.L.Link.exchanges c.match-self.link) c.match-self.self c.match-self.self.rest.items c.args.screens.now) =
-    elim c.match-self.branch [
-      | in-Connects+in-Ok-true w ↦ follows_at (within_turn (g.L.Link.exchanges c.args.link.now) c.args.self.now c.args.self.now.rest.items c.args.screens.now) _ _ _ _ c.args.screens.now w.self-is (ap (λ k. g.L.Link.exchanges k) w.link-is) (λ limits log servers contest sockets follows. within (
-          with_open limits log servers (is_none c.args.self.now.coming) c.args.self.now.reach c.args.self.now.request.items c.args.self.now.rest.items _ _ _ c.args.self.now.upstream.follower (followed_by c.args.self.now) w.in-Connects.is w.is_open.ensures.unchanged) follows)
-      | in_default w ↦ follows_at (within_turn (g.L.Link.exchanges c.args.link.now) c.args.self.now c.args.self.now.rest.items c.args.screens.now) _ _ _ _ c.args.screens.now w.self-is (ap (λ k. g.L.Link.exchanges k) w.link-is) (λ limits log servers contest sockets follows. follows)
-    ] in
+pub returns-then-not-is_open-clause-heeds : goal.returns-then-not-is_open-clause-heeds
+returns-then-not-is_open-clause-heeds g c = heeds_then c.is_open.ensures.heeds (heeds_same _ (record { set = refl; times = refl }))
+
+pub returns-then-not-is_open-clause-calls : goal.returns-then-not-is_open-clause-calls
+returns-then-not-is_open-clause-calls g c =
     record {
-      follows = λ limits log servers contest sockets follows.
-          c.read_some.ensures.follows reads limits log servers contest sockets (c.ask.ensures.follows c.args.screens.now limits log servers contest sockets (opened limits log servers contest sockets follows));
+      looks = λ since is. (c.is_open.ensures.looks since is).looked;
+      asks = λ count is some.
+          let opened = c.is_open.ensures.rests (λ since at. let wrong : Asks count ≡ Connects since = sym is ∙ at in absurd (cc)) in
+          let wrong : false ≡ true = sym c.if-not-is_open.true ∙ opened.0 in absurd (cc);
+      reads = λ may.
+          let opened = c.is_open.ensures.rests (λ since at. let wrong : Reads ≡ Connects since = sym may.reads ∙ at in absurd (cc)) in
+          let wrong : false ≡ true = sym c.if-not-is_open.true ∙ opened.0 in absurd (cc);
     }
 
-pub returns-else-eq : goal.returns-else-eq
-returns-else-eq g c =
-    let opened : StillFollows (within_turn (g.L.Link.exchanges c.args.link.now) c.args.self.now c.args.self.now.rest.items c.args.screens.now) (within_turn (g.L.Link.exchanges c.match-self.link) c.match-self.self c.match-self.self.rest.items c.args.screens.now) =
-    elim c.match-self.branch [
-      | in-Connects+in-Ok-true w ↦ follows_at (within_turn (g.L.Link.exchanges c.args.link.now) c.args.self.now c.args.self.now.rest.items c.args.screens.now) _ _ _ _ c.args.screens.now w.self-is (ap (λ k. g.L.Link.exchanges k) w.link-is) (λ limits log servers contest sockets follows. within (
-          with_open limits log servers (is_none c.args.self.now.coming) c.args.self.now.reach c.args.self.now.request.items c.args.self.now.rest.items _ _ _ c.args.self.now.upstream.follower (followed_by c.args.self.now) w.in-Connects.is w.is_open.ensures.unchanged) follows)
-      | in_default w ↦ follows_at (within_turn (g.L.Link.exchanges c.args.link.now) c.args.self.now c.args.self.now.rest.items c.args.screens.now) _ _ _ _ c.args.screens.now w.self-is (ap (λ k. g.L.Link.exchanges k) w.link-is) (λ limits log servers contest sockets follows. follows)
-    ] in
+pub returns-then-eq-clause-follows : goal.returns-then-eq-clause-follows
+returns-then-eq-clause-follows g c =
+    let reads : c.ask.new.self.reach ≡ Reads = search rules in
+    λ limits log servers contest sockets follows.
+    c.read_some.ensures.follows reads limits log servers contest sockets (c.ask.ensures.follows c.args.screens.now limits log servers contest sockets (c.is_open.ensures.follows c.args.screens.now limits log servers contest sockets follows))
+
+pub returns-then-eq-clause-heeds : goal.returns-then-eq-clause-heeds
+returns-then-eq-clause-heeds g c = heeds_then c.read_some.ensures.heeds (heeds_then c.ask.ensures.heeds (heeds_then c.is_open.ensures.heeds (heeds_same _ (record { set = refl; times = refl }))))
+
+pub returns-then-eq-clause-calls : goal.returns-then-eq-clause-calls
+returns-then-eq-clause-calls g c =
+    let looked = c.read_some.ensures.looks ∙ c.ask.ensures.looks in
     record {
-      follows = λ limits log servers contest sockets follows.
-          c.ask.ensures.follows c.args.screens.now limits log servers contest sockets (opened limits log servers contest sockets follows);
+      looks = λ since is. subst (λ k. CalledOnce (g.L.Link.calls c.args.link.now).looked k) (sym looked) (c.is_open.ensures.looks since is).looked;
+      asks = λ count is some.
+          let opened = c.is_open.ensures.rests (λ since at. let wrong : Asks count ≡ Connects since = sym is ∙ at in absurd (cc)) in
+          let written = c.ask.ensures.asks count (ap (λ s. s.reach) opened.1 ∙ is) (λ none. some (sym (ap (λ s. drop count s.request.items) opened.1) ∙ none)) in
+          subst (λ k. CalledAtLeastOnce (g.L.Link.calls c.args.link.now).written k) (sym c.read_some.ensures.written)
+          (subst (λ k. CalledAtLeastOnce (g.L.Link.calls k).written (g.L.Link.calls c.ask.new.link).written) opened.2 written);
+      reads = λ may.
+          let opened = c.is_open.ensures.rests (λ since at. let wrong : Reads ≡ Connects since = sym may.reads ∙ at in absurd (cc)) in
+          let asked = c.ask.ensures.rests (λ count at. let wrong : Reads ≡ Asks count = sym may.reads ∙ sym (ap (λ s. s.reach) opened.1) ∙ at in absurd (cc)) in
+          let same = asked.0 ∙ opened.1 in
+          subst (λ k. CalledAtLeastOnce (g.L.Link.calls k).read (g.L.Link.calls c.read_some.new.link).read) (asked.1 ∙ opened.2)
+          (c.read_some.ensures.reads (record { reads = ap (λ s. s.reach) same ∙ may.reads; rest = ap (λ s. s.rest.items) same ∙ may.rest; said = may.said }));
+    }
+
+pub returns-else-eq-clause-follows : goal.returns-else-eq-clause-follows
+returns-else-eq-clause-follows g c =
+    λ limits log servers contest sockets follows. c.ask.ensures.follows c.args.screens.now limits log servers contest sockets (c.is_open.ensures.follows c.args.screens.now limits log servers contest sockets follows)
+
+pub returns-else-eq-clause-heeds : goal.returns-else-eq-clause-heeds
+returns-else-eq-clause-heeds g c = heeds_then c.ask.ensures.heeds (heeds_then c.is_open.ensures.heeds (heeds_same _ (record { set = refl; times = refl })))
+
+pub returns-else-eq-clause-calls : goal.returns-else-eq-clause-calls
+returns-else-eq-clause-calls g c =
+    let others : c.ask.new.self.reach ≢ Reads = search rules in
+    record {
+      looks = λ since is. subst (λ k. CalledOnce (g.L.Link.calls c.args.link.now).looked k) (sym c.ask.ensures.looks) (c.is_open.ensures.looks since is).looked;
+      asks = λ count is some.
+          let opened = c.is_open.ensures.rests (λ since at. let wrong : Asks count ≡ Connects since = sym is ∙ at in absurd (cc)) in
+          let written = c.ask.ensures.asks count (ap (λ s. s.reach) opened.1 ∙ is) (λ none. some (sym (ap (λ s. drop count s.request.items) opened.1) ∙ none)) in
+          subst (λ k. CalledAtLeastOnce (g.L.Link.calls k).written (g.L.Link.calls c.ask.new.link).written) opened.2 written;
+      reads = λ may.
+          let opened = c.is_open.ensures.rests (λ since at. let wrong : Reads ≡ Connects since = sym may.reads ∙ at in absurd (cc)) in
+          let asked = c.ask.ensures.rests (λ count at. let wrong : Reads ≡ Asks count = sym may.reads ∙ sym (ap (λ s. s.reach) opened.1) ∙ at in absurd (cc)) in
+          absurd (others (ap (λ s. s.reach) (asked.0 ∙ opened.1) ∙ may.reads));
     }

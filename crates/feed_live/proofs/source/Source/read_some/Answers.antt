@@ -1,40 +1,55 @@
 use Rattle.std.specs.Prelude.{is_none}
-use Rattle.std.proofs.Common.{rules, ◌≡◌, ◌∙◌, sym, [], eqb-true}
-use Rattle.std.proofs.lemmas.List.{nil_from_length}
-use Rattle.feed_live.specs.declared.source.Reach.TheVariants.{Reads}
+use Rattle.std.proofs.Common.{◌∙◌, ◌≡◌, sym, ap, subst, []}
+use Rattle.feed_device.proofs.CallLemmas.{called_once, least_then}
+use Rattle.feed_device.specs.Calls.{CalledAtLeastOnce}
+use Rattle.feed_live.specs.Calling.{MayReadOn}
 use Rattle.feed_live.specs.Relaying.{followed_by}
-use Rattle.feed_live.proofs.RelayLemmas.{with_kept, with_unread, within}
+use Rattle.feed_live.proofs.RelayLemmas.{with_unread, within}
+use Rattle.feed_live.proofs.TimesLemmas.{heeds_then}
 use Rattle.feed_live.proofs.source.Source.read_some.Goals as goal
 
-pub returns-then-not-read : goal.returns-then-not-read
-returns-then-not-read g c =
-    let on : c.loop.self.reach ≡ Reads = search rules in
-    let zero : c.loop.self.rest.len ≡ 0 = eqb-true c.loop.self.rest.len 0 (sym c.is_empty.ensures ∙ c.if-not-is_empty.false) in
-    let none : c.loop.self.rest.items ≡ [] = nil_from_length c.loop.self.rest.items (sym c.loop.self.rest.ok.0 ∙ zero) in
-    record {
-      follows = λ reads limits log servers contest sockets follows.
-          c.read.ensures.follows on none limits log servers contest sockets
-          (within (with_unread limits log servers (is_none c.loop.self.coming) _ c.loop.self.reach c.loop.self.request.items c.loop.self.upstream.follower (followed_by c.loop.self) (sym none))
-          (c.loop.invariant limits log servers contest sockets
-          (c.take.ensures.follows (c.kept-rest.ensures.same.reach ∙ reads) c.kept-rest.ensures.rest limits log servers contest sockets
-          (c.kept-rest.ensures.same.servers ∙ follows.0, with_kept limits log servers c.kept-rest.ensures.same _ c.args.self.now.rest.items c.as_slice.result.now (c.as_slice.ensures.value ∙ c.kept-rest.ensures.kept) follows.1))));
-    }
+pub returns-then-read-clause-follows : goal.returns-then-read-clause-follows
+returns-then-read-clause-follows g c =
+    let may : MayReadOn c.take_kept.new.self c.take_kept.new.screens.saying.waits = c.may_read.ensures.0 c.if-not-may_read.false in
+    λ reads limits log servers contest sockets follows.
+    c.read_more.ensures.follows limits log servers contest sockets
+    (c.read.ensures.follows may.reads may.rest limits log servers contest sockets
+    (within (with_unread limits log servers (is_none c.take_kept.new.self.coming) _ c.take_kept.new.self.reach c.take_kept.new.self.request.items c.take_kept.new.self.upstream.follower (followed_by c.take_kept.new.self) (sym may.rest))
+    (c.take_kept.ensures.follows reads limits log servers contest sockets follows)))
 
-pub loop-preserved : goal.loop-preserved
-loop-preserved g c =
-    let on : c.loop.self.reach ≡ Reads = search rules in
-    let zero : c.loop.self.rest.len ≡ 0 = eqb-true c.loop.self.rest.len 0 (sym c.is_empty.ensures ∙ c.if-not-is_empty.false) in
-    let none : c.loop.self.rest.items ≡ [] = nil_from_length c.loop.self.rest.items (sym c.loop.self.rest.ok.0 ∙ zero) in
-    λ limits log servers contest sockets follows.
-    c.read.ensures.follows on none limits log servers contest sockets
-    (within (with_unread limits log servers (is_none c.loop.self.coming) _ c.loop.self.reach c.loop.self.request.items c.loop.self.upstream.follower (followed_by c.loop.self) (sym none))
-    (c.loop.invariant limits log servers contest sockets follows))
+pub returns-then-read-clause-heeds : goal.returns-then-read-clause-heeds
+returns-then-read-clause-heeds g c = heeds_then c.read_more.ensures.heeds (heeds_then c.read.ensures.heeds c.take_kept.ensures.heeds)
 
-pub returns : goal.returns
-returns g c =
-    record {
-      follows = λ reads limits log servers contest sockets follows.
-          c.loop.invariant limits log servers contest sockets
-          (c.take.ensures.follows (c.kept-rest.ensures.same.reach ∙ reads) c.kept-rest.ensures.rest limits log servers contest sockets
-          (c.kept-rest.ensures.same.servers ∙ follows.0, with_kept limits log servers c.kept-rest.ensures.same _ c.args.self.now.rest.items c.as_slice.result.now (c.as_slice.ensures.value ∙ c.kept-rest.ensures.kept) follows.1));
-    }
+pub returns-then-read-clause-looks : goal.returns-then-read-clause-looks
+returns-then-read-clause-looks g c = c.read_more.ensures.looks ∙ c.read.ensures.calls.looked ∙ ap (λ k. k.looked) c.take_kept.ensures.calls
+
+pub returns-then-read-clause-written : goal.returns-then-read-clause-written
+returns-then-read-clause-written g c = c.read_more.ensures.written ∙ c.read.ensures.calls.written ∙ ap (λ k. k.written) c.take_kept.ensures.calls
+
+pub returns-then-read-clause-reads : goal.returns-then-read-clause-reads
+returns-then-read-clause-reads g c =
+    λ may.
+    subst (λ k. CalledAtLeastOnce k.read (g.L.Link.calls c.read_more.new.link).read) c.take_kept.ensures.calls
+    (least_then _ _ _ (called_once _ _ c.read.ensures.calls.read) c.read_more.ensures.since)
+
+pub returns-else-read-clause-follows : goal.returns-else-read-clause-follows
+returns-else-read-clause-follows g c =
+    let may : MayReadOn c.take_kept.new.self c.take_kept.new.screens.saying.waits = c.may_read.ensures.0 c.if-not-may_read.false in
+    λ reads limits log servers contest sockets follows.
+    c.read.ensures.follows may.reads may.rest limits log servers contest sockets
+    (within (with_unread limits log servers (is_none c.take_kept.new.self.coming) _ c.take_kept.new.self.reach c.take_kept.new.self.request.items c.take_kept.new.self.upstream.follower (followed_by c.take_kept.new.self) (sym may.rest))
+    (c.take_kept.ensures.follows reads limits log servers contest sockets follows))
+
+pub returns-else-read-clause-heeds : goal.returns-else-read-clause-heeds
+returns-else-read-clause-heeds g c = heeds_then c.read.ensures.heeds c.take_kept.ensures.heeds
+
+pub returns-else-read-clause-looks : goal.returns-else-read-clause-looks
+returns-else-read-clause-looks g c = c.read.ensures.calls.looked ∙ ap (λ k. k.looked) c.take_kept.ensures.calls
+
+pub returns-else-read-clause-written : goal.returns-else-read-clause-written
+returns-else-read-clause-written g c = c.read.ensures.calls.written ∙ ap (λ k. k.written) c.take_kept.ensures.calls
+
+pub returns-else-read-clause-reads : goal.returns-else-read-clause-reads
+returns-else-read-clause-reads g c =
+    λ may.
+    subst (λ k. CalledAtLeastOnce k.read (g.L.Link.calls c.read.new.link).read) c.take_kept.ensures.calls (called_once _ _ c.read.ensures.calls.read)

@@ -1,5 +1,9 @@
 use Rattle.feed_live.specs.States.{states_of}
 use Rattle.feed_live.proofs.RelayLemmas.{with_screens}
+use Rattle.std.proofs.Common.{◌∙◌, inl, inr, sym, ap, subst}
+use Rattle.feed_live.specs.Leaving.{IsAtRest}
+use Rattle.feed_live.proofs.TurnLemmas.{left_on}
+use Rattle.feed_live.proofs.TimesLemmas.{keeps_then, heeds_link_same}
 use Rattle.feed_live.proofs.turn.Live.follow.Goals as goal
 
 pub returns-then-is_heard-clause-relaying : goal.returns-then-is_heard-clause-relaying
@@ -11,3 +15,53 @@ returns-then-is_heard-clause-relaying g c =
 pub returns-else-was_held-clause-relaying : goal.returns-else-was_held-clause-relaying
 returns-else-was_held-clause-relaying g c =
     λ sockets limits log servers is. c.settle.ensures.relaying sockets limits log servers (c.go_on.ensures.relaying sockets limits log servers (is.0, c.tick.ensures.follows c.args.self.now.screens limits log servers _ sockets is.1))
+
+pub returns-then-is_heard-clause-keeps : goal.returns-then-is_heard-clause-keeps
+returns-then-is_heard-clause-keeps g c = keeps_then c.settle.ensures.keeps (keeps_then c.go_on.ensures.keeps c.tick.ensures.keeps)
+
+pub returns-else-was_held-clause-keeps : goal.returns-else-was_held-clause-keeps
+returns-else-was_held-clause-keeps g c = keeps_then c.settle.ensures.keeps (keeps_then c.go_on.ensures.keeps c.tick.ensures.keeps)
+
+pub returns-then-is_heard-clause-heeds : goal.returns-then-is_heard-clause-heeds
+returns-then-is_heard-clause-heeds g c =
+    λ none some reach more stay waits.
+    let ticked = c.tick.ensures.stays reach stay in
+    heeds_link_same ticked.0 ticked.3 c.settle.ensures.calls (c.go_on.ensures.heeds (ticked.2 ∙ more) waits)
+
+pub returns-else-was_held-clause-heeds : goal.returns-else-was_held-clause-heeds
+returns-else-was_held-clause-heeds g c =
+    λ none some reach more stay waits.
+    let ticked = c.tick.ensures.stays reach stay in
+    heeds_link_same ticked.0 ticked.3 c.settle.ensures.calls (c.go_on.ensures.heeds (ticked.2 ∙ more) waits)
+
+pub returns-then-is_heard-clause-leaves : goal.returns-then-is_heard-clause-leaves
+returns-then-is_heard-clause-leaves g c =
+    λ none some is.
+    let rest = c.tick.ensures.rests (inr (inl is)) in
+    let on = c.go_on.ensures.rests rest in
+    let settled = c.settle.ensures.rests (subst IsAtRest (sym on.0) rest) in
+    left_on (c.settle.ensures.calls ∙ on.1) (ap (λ s. s.reach) (settled ∙ on.0)) (c.tick.ensures.leaves is)
+
+pub returns-then-is_heard-clause-moves : goal.returns-then-is_heard-clause-moves
+returns-then-is_heard-clause-moves g c =
+    λ none some is.
+    let rest = c.tick.ensures.rests (inr (inr is)) in
+    let on = c.go_on.ensures.rests rest in
+    let settled = c.settle.ensures.rests (subst IsAtRest (sym on.0) rest) in
+    left_on (c.settle.ensures.calls ∙ on.1) (ap (λ s. s.reach) (settled ∙ on.0)) (c.tick.ensures.moves is)
+
+pub returns-else-was_held-clause-leaves : goal.returns-else-was_held-clause-leaves
+returns-else-was_held-clause-leaves g c =
+    λ none some is.
+    let rest = c.tick.ensures.rests (inr (inl is)) in
+    let on = c.go_on.ensures.rests rest in
+    let settled = c.settle.ensures.rests (subst IsAtRest (sym on.0) rest) in
+    left_on (c.settle.ensures.calls ∙ on.1) (ap (λ s. s.reach) (settled ∙ on.0)) (c.tick.ensures.leaves is)
+
+pub returns-else-was_held-clause-moves : goal.returns-else-was_held-clause-moves
+returns-else-was_held-clause-moves g c =
+    λ none some is.
+    let rest = c.tick.ensures.rests (inr (inr is)) in
+    let on = c.go_on.ensures.rests rest in
+    let settled = c.settle.ensures.rests (subst IsAtRest (sym on.0) rest) in
+    left_on (c.settle.ensures.calls ∙ on.1) (ap (λ s. s.reach) (settled ∙ on.0)) (c.tick.ensures.moves is)

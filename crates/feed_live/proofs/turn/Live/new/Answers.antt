@@ -1,8 +1,9 @@
-use Rattle.std.proofs.Common.{◌≡◌, ◌∙◌, refl, ap, sym, subst, []}
+use Rattle.std.proofs.Common.{◌≡◌, ◌∙◌, refl, ap, sym, subst, [], ◌≤◌}
 use Rattle.std.specs.Prelude.{Contains, IfSome, false, true}
 use Rattle.feed_files.specs.Saved.{EndsAsRecorded}
 use Rattle.feed_node.specs.Mirroring.{StandsAt, present_opening}
 use Rattle.feed_live.specs.States.{states_of}
+use Rattle.feed_live.specs.Times.{AreBy}
 use Rattle.feed_files.proofs.InputLemmas.{takes_so, takes_nothing}
 use Rattle.feed_live.proofs.RelayLemmas.{among_shown, with_same, with_screens, shows_still, servers_are}
 use Rattle.feed_live.proofs.TurnLemmas.{with_begun, input_begun}
@@ -49,6 +50,8 @@ returns g c =
       connects = ap (λ u. u.since) c.begin_input.ensures.upstream ∙ c.new-source.ensures.due ∙ c.new-desk.ensures.time;
       round = ap (λ u. u.places) c.begin_input.ensures.upstream ∙ c.new-source.ensures.round;
       heard = λ shown some old. c.begin_input.ensures.heard ∙ c.new-source.ensures.heard shown some old;
+      times = λ latest by.
+          subst (AreBy latest) (sym c.begin_input.ensures.times.times) (c.new-source.ensures.times latest (subst (λ t. t ≤ latest) (sym c.new-desk.ensures.time) by));
       settles = (
         ap (λ s. s.pause) c.begin_input.ensures.settling ∙ c.new-source.ensures.settles.0,
         ap (λ s. s.is_always) c.begin_input.ensures.settling ∙ c.new-source.ensures.settles.1,

@@ -10,4 +10,6 @@ invariant-loop-event l =
       serves : (sockets : AllSockets) → OnlyServes l.initial.self l.self sockets sockets;
       saved : SameBeside l.initial.self l.self;
       desk : l.self.desk ≡ l.initial.self.desk;
+      source : l.self.source ≡ l.initial.self.source;
+      waits : l.self.screens.saying ≡ l.initial.self.screens.saying;
     }

@@ -10,7 +10,7 @@ returns-clause-serves g c =
       ends = (refl, refl);
       feeds = refl;
       source = record { servers = refl; shown = c.serve.ensures.mirrors.shown; blank = c.serve.ensures.mirrors.blank; coming = refl; follower = refl; reach = refl; request = refl; rest = refl; opened = refl };
-      waiting = record { upstream = refl; reach = refl; returning = refl; opened = refl; body_since = refl };
+      waiting = record { settling = refl; rechecking = refl; upstream = refl; reach = refl; returning = refl; opened = refl; body_since = refl };
       heard = refl;
       epoch = refl;
       serves = λ nodes shown blank. subst (λ t. StillServing nodes t c.args.self.now.screens c.serve.new.self (g.S.Sockets.socket c.args.sockets.now) (g.S.Sockets.socket c.serve.new.sockets)) c.shown_of-shown.ensures.contest (c.serve.ensures.serving nodes shown (λ held. blank (not-true _ (sym c.shown_of-shown.ensures.held ∙ held))));

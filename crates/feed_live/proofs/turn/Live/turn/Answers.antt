@@ -1,11 +1,12 @@
-use Rattle.std.proofs.Common.{◌≡◌, sym, ap, subst, ◌∙◌, ◌++◌}
-use Rattle.std.specs.Prelude.{◌⊎◌, Contains, is_some}
+use Rattle.std.proofs.Common.{◌≡◌, refl, sym, ap, subst, ◌∙◌, ◌++◌}
+use Rattle.std.specs.Prelude.{◌⊎◌, Contains, is_some, true, None}
 use Rattle.feed_files.specs.Saved.{KeepsFiles}
 use Rattle.feed_live.specs.Ending.{SameBeside, SameSaved}
 use Rattle.feed_files.specs.Input.{StopsInput}
 use Rattle.feed_live.specs.Taking.{bytes_in}
-use Rattle.feed_live.specs.Relaying.{IsToConnect}
-use Rattle.feed_live.specs.Leaving.{IsToLeave}
+use Rattle.feed_live.specs.Relaying.{IsToConnect, SameSource, SameWaiting}
+use Rattle.feed_live.specs.Leaving.{IsToLeave, IsToStay}
+use Rattle.feed_live.proofs.TimesLemmas.{keeps_turn, heeds_link_same, stays_awake}
 use Rattle.feed_screens.proofs.ServingLemmas.{serving_noted}
 use Rattle.feed_live.proofs.TurnLemmas.{beside_then, serves_then, screens_only, relays_on, takes_only, takes_still, asked_then, goes_with, to_connect_same, left_same, begins_same, away_still}
 use Rattle.feed_screens.proofs.OwedLemmas.{owes_what_is_kept}
@@ -77,6 +78,27 @@ returns g c =
           (subst (λ l. IsToLeave c.take_input.new.self.source l.screens.idle c.take_input.new.self.desk.time) (sym (c.take_input.ensures.ends.limits ∙ said.ends.0))
           (subst (λ t. IsToLeave c.take_input.new.self.source c.args.self.now.limits.screens.idle t) (sym time)
           (subst (λ s. IsToLeave s c.args.self.now.limits.screens.idle c.args.now) (sym apart.0) (left_same c.args.self.now.limits.screens.idle c.args.now said.waiting is)))));
+      keeps = λ no_feed.
+          let apart = c.take_input.ensures.apart (said.feeds ∙ no_feed) in
+          let time = apart.1 ∙ ap (λ d. d.time) (c.say_more.ensures.desk ∙ c.note.ensures.desk ∙ c.begin.ensures) in
+          keeps_turn said.waiting apart.0 c.follow.ensures.keeps served.waiting time;
+      heeds = λ no_feed goes_on some reach event left newest waits.
+          let apart = c.take_input.ensures.apart (said.feeds ∙ no_feed) in
+          let time = apart.1 ∙ ap (λ d. d.time) (c.say_more.ensures.desk ∙ c.note.ensures.desk ∙ c.begin.ensures) in
+          let places = ap (λ s. s.places.items) apart.0 ∙ ap (λ s. s.places) said.source.servers in
+          let on = sym (served.ends.1 ∙ c.follow.ensures.ends.1) ∙ goes_on in
+          let silent : c.note.new.self.screens.saying.waits ≡ None = ap (λ s. s.waits) c.note.ensures.waits ∙ ap (λ s. s.saying.waits) c.begin_turn-had_more.ensures.exact ∙ waits in
+          let same = c.say_more.ensures.nothing silent in
+          let more : c.take_input.new.self.source.has_more ≡ true = ap (λ s. s.has_more) apart.0 ∙ ap (λ l. l.source.has_more) same ∙ c.note.ensures.wakes event reach in
+          let said_now : c.take_input.new.self.screens.saying.waits ≡ None = ap (λ s. s.saying.waits) (c.take_input.ensures.nothing (said.feeds ∙ no_feed) on) ∙ ap (λ l. l.screens.saying.waits) same ∙ silent in
+          let waiting = subst (λ s. SameWaiting c.args.self.now.source s) (sym apart.0) said.waiting in
+          let source = subst (λ s. SameSource c.args.self.now.source s) (sym apart.0) said.source in
+          let idle = c.args.self.now.limits.screens.idle in
+          heeds_link_same source refl refl
+          (c.follow.ensures.heeds on (λ none. some (sym places ∙ none)) (λ away. reach (sym source.reach ∙ away)) more
+          (subst (λ l. IsToStay c.take_input.new.self.source l.screens.idle c.take_input.new.self.desk.time) (sym (c.take_input.ensures.ends.limits ∙ said.ends.0))
+          (subst (λ t. IsToStay c.take_input.new.self.source idle t) (sym time)
+          (stays_awake idle c.args.now waiting (ap (λ s. s.is_heard) apart.0 ∙ said.heard) more left newest))) said_now);
       takes = c.next.ensures.takes;
       over = c.next.ensures.over;
     }

@@ -1,0 +1,42 @@
+use Rattle.std.specs.Prelude.{is_none}
+use Rattle.std.proofs.Common.{◌∙◌, ◌≡◌, sym, []}
+use Rattle.feed_device.proofs.CallLemmas.{since_once, since_then}
+use Rattle.feed_live.specs.Calling.{MayReadOn}
+use Rattle.feed_live.specs.Relaying.{followed_by}
+use Rattle.feed_live.proofs.RelayLemmas.{with_unread, within}
+use Rattle.feed_live.proofs.TimesLemmas.{heeds_then}
+use Rattle.feed_live.proofs.source.Source.read_more.Goals as goal
+
+pub returns-then-not-read-clause-follows : goal.returns-then-not-read-clause-follows
+returns-then-not-read-clause-follows g c =
+    let may : MayReadOn c.loop.self c.loop.screens.saying.waits = c.may_read.ensures.0 c.if-not-may_read.false in
+    λ limits log servers contest sockets follows.
+    c.read.ensures.follows may.reads may.rest limits log servers contest sockets
+    (within (with_unread limits log servers (is_none c.loop.self.coming) _ c.loop.self.reach c.loop.self.request.items c.loop.self.upstream.follower (followed_by c.loop.self) (sym may.rest))
+    (c.loop.invariant.follows limits log servers contest sockets follows))
+
+pub returns-then-not-read-clause-heeds : goal.returns-then-not-read-clause-heeds
+returns-then-not-read-clause-heeds g c = heeds_then c.read.ensures.heeds c.loop.invariant.heeds
+
+pub returns-then-not-read-clause-looks : goal.returns-then-not-read-clause-looks
+returns-then-not-read-clause-looks g c = c.read.ensures.calls.looked ∙ c.loop.invariant.looks
+
+pub returns-then-not-read-clause-written : goal.returns-then-not-read-clause-written
+returns-then-not-read-clause-written g c = c.read.ensures.calls.written ∙ c.loop.invariant.written
+
+pub returns-then-not-read-clause-since : goal.returns-then-not-read-clause-since
+returns-then-not-read-clause-since g c = since_then _ _ _ c.loop.invariant.since (since_once _ _ c.read.ensures.calls.read)
+
+pub loop-preserved : goal.loop-preserved
+loop-preserved g c =
+    let may : MayReadOn c.loop.self c.loop.screens.saying.waits = c.may_read.ensures.0 c.if-not-may_read.false in
+    record {
+      follows = λ limits log servers contest sockets follows.
+          c.read.ensures.follows may.reads may.rest limits log servers contest sockets
+          (within (with_unread limits log servers (is_none c.loop.self.coming) _ c.loop.self.reach c.loop.self.request.items c.loop.self.upstream.follower (followed_by c.loop.self) (sym may.rest))
+          (c.loop.invariant.follows limits log servers contest sockets follows));
+      heeds = heeds_then c.read.ensures.heeds c.loop.invariant.heeds;
+      looks = c.read.ensures.calls.looked ∙ c.loop.invariant.looks;
+      written = c.read.ensures.calls.written ∙ c.loop.invariant.written;
+      since = since_then _ _ _ c.loop.invariant.since (since_once _ _ c.read.ensures.calls.read);
+    }
