@@ -6,7 +6,7 @@ ghost use Rattle.feed_answer.specs.Answered.{AnswerParts};
 ghost use Rattle.feed_hub.specs.Hub.{IsSeated, ChangesOnly, prefix_at};
 ghost use Rattle.feed_hub.specs.Seats.{seat_at, Watched};
 ghost use Rattle.feed_hub.specs.Steps.{taken};
-ghost use Rattle.feed_device.specs.Calls.{CalledOnce};
+ghost use Rattle.feed_device.specs.Calls.{CalledOnce, NotCalled};
 ghost use Rattle.feed_device.specs.Sockets.{IsWrite, OtherSockets};
 
 use feed_device::{Sockets, Stop};
@@ -40,6 +40,7 @@ pub(crate) fn hand<S: Sockets>(
     ensures rest { IfOk result (λ _. ChangesOnly hub.old hub.new key) }
     ensures err { OnErr result (hub.new ≡ hub.old) }
     ensures asks { S.asked sockets.new ≡ S.asked sockets.old }
+    ensures tries { NotCalled (S.tried sockets.old) (S.tried sockets.new) }
 {
     let count = sockets.write(at, hub.prefix(key))?;
     hub.sent(key, count, now);

@@ -4,6 +4,7 @@ ghost use Rattle.std.specs.Prelude.{◌≡◌, false, ◌≢◌, ◌↔◌, ◌<
 ghost use Rattle.slab.specs.Slab.{slab_len};
 ghost use Rattle.feed_node.specs.States.{published_token};
 ghost use Rattle.feed_hub.specs.Seats.{KeepsThose, IsOnTime};
+ghost use Rattle.feed_device.specs.Calls.{NotCalled};
 ghost use Rattle.feed_screens.specs.Serving.{StillServesFrom, StillServes, StillStand, SameSeating};
 ghost use Rattle.feed_screens.specs.Serving.{AllEnd, SaysAll, WaitsBriefly, idles_at};
 ghost use Rattle.feed_screens.specs.Waiting.{SameToDo, AreReady, MaySay};
@@ -310,6 +311,7 @@ impl Screens {
         ensures serving { StillServesFrom node.now.shown self.old self.new
             (S.socket sockets.old) (S.socket sockets.new) }
         ensures asks { S.asked sockets.new ≡ S.asked sockets.old }
+        ensures tries { NotCalled (S.tried sockets.old) (S.tried sockets.new) }
     {
         if !self.saying.is_due {
             return;

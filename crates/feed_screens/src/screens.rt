@@ -197,6 +197,7 @@ impl Screens {
         ensures closed { IsSocket (S.socket sockets.new at) closed }
         ensures offers { NotCalled (S.offered sockets.old) (S.offered sockets.new) }
         ensures asks { S.asked sockets.new ≡ S.asked sockets.old }
+        ensures tries { NotCalled (S.tried sockets.old) (S.tried sockets.new) }
         // its seat is free, and the others stay
         ensures seat { (key : Key) → key_at self.old.conns at ≡ Some (Some key)
             → seat_at self.new.hub.seats.slab key ≡ None }
@@ -267,6 +268,7 @@ impl Screens {
         ensures serving { StillServesAll self.old self.new
             (S.socket sockets.old) (S.socket sockets.new) }
         ensures asks { S.asked sockets.new ≡ S.asked sockets.old }
+        ensures tries { NotCalled (S.tried sockets.old) (S.tried sockets.new) }
         // whom the hub didn't cut stays
         ensures stays { (at : ℕ) → ¬ (HasNoSeat self.old.hub (get self.old.conns at))
             → get self.new.conns at ≡ get self.old.conns at }
@@ -301,6 +303,7 @@ impl Screens {
         // and of those who have nobody
         ensures goes { (at : ℕ) → ¬ (IsPast (get self.new.conns at) desk.old.time) }
         ensures asks { S.asked sockets.new ≡ S.asked sockets.old }
+        ensures tries { NotCalled (S.tried sockets.old) (S.tried sockets.new) }
     {
         for at in 0..self.conns.capacity() {
             if self.is_past(at, desk.time) {

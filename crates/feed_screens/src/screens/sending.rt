@@ -64,6 +64,7 @@ impl Screens {
             → prefix_at self.old.hub key ≢ []
             → CalledOnce (S.offered sockets.old at) (S.offered sockets.new at) }
         ensures asked { S.asked sockets.new ≡ S.asked sockets.old }
+        ensures tries { NotCalled (S.tried sockets.old) (S.tried sockets.new) }
     {
         let Some(key) = self.writable(at) else {
             return;
@@ -83,6 +84,7 @@ impl Screens {
         ensures offers { CalledOnce (S.offered sockets.old keyed.at)
             (S.offered sockets.new keyed.at) }
         ensures asks { S.asked sockets.new ≡ S.asked sockets.old }
+        ensures tries { NotCalled (S.tried sockets.old) (S.tried sockets.new) }
     {
         match self.write_once(sockets, keyed, desk.time) {
             Ok(true) => {
@@ -125,6 +127,7 @@ impl Screens {
         ensures has { prefix_at self.old.hub keyed.key ≢ [] → IsTrue result }
         ensures offers { NotCalled (S.offered sockets.old) (S.offered sockets.new) }
         ensures asks { S.asked sockets.new ≡ S.asked sockets.old }
+        ensures tries { NotCalled (S.tried sockets.old) (S.tried sockets.new) }
     {
         if !self.hub.prefix(keyed.key).is_empty() {
             return true;
@@ -203,6 +206,7 @@ impl Screens {
             (S.socket sockets.old) (S.socket sockets.new) }
         ensures offers { NotCalled (S.offered sockets.old) (S.offered sockets.new) }
         ensures asks { S.asked sockets.new ≡ S.asked sockets.old }
+        ensures tries { NotCalled (S.tried sockets.old) (S.tried sockets.new) }
         ensures stays { HasKey self.old.conns keyed → key_at self.new.conns keyed.at ≡ Some None }
         ensures lingers { IfSome (get self.new.conns keyed.at)
             (λ conn. conn.phase ≡ lingers_from now) }
@@ -242,6 +246,7 @@ impl Screens {
         ensures offers { CalledOnce (S.offered sockets.old keyed.at)
             (S.offered sockets.new keyed.at) }
         ensures asks { S.asked sockets.new ≡ S.asked sockets.old }
+        ensures tries { NotCalled (S.tried sockets.old) (S.tried sockets.new) }
     {
         let length = self.hub.prefix(keyed.key).len();
         let count = match hand(&mut self.hub, sockets, keyed.at, keyed.key, now) {
@@ -270,6 +275,7 @@ impl Screens {
         ensures serving { StillServesFrom node.now.shown self.old self.new
             (S.socket sockets.old) (S.socket sockets.new) }
         ensures asks { S.asked sockets.new ≡ S.asked sockets.old }
+        ensures tries { NotCalled (S.tried sockets.old) (S.tried sockets.new) }
     {
         for at in 0..self.conns.capacity() {
             self.drain(desk, sockets, node, at);

@@ -1,8 +1,10 @@
 //! Who waits for room: long texts that screens have yet to take have a limit together.
 
-ghost use Rattle.std.specs.Prelude.{◌≡◌, ◌≢◌, ◌<◌, ◌≤◌, ◌↔◌, ◌^◌, ◌-◌, [], ℕ, List, None, Some, min, true, IsTrue, OnOk};
+ghost use Rattle.std.specs.Prelude.{◌≡◌, ◌≢◌, ◌<◌, ◌≤◌, ◌↔◌, ◌^◌, ◌-◌, [], ℕ, List, None, Some, min, true, false, IsTrue, IfSome, OnOk};
 ghost use Rattle.feed_node.specs.States.{NodeState};
-ghost use Rattle.feed_hub.specs.Seats.{seat_at};
+ghost use Rattle.feed_hub.specs.Steps.{IsCatchingUp};
+ghost use Rattle.feed_hub.specs.Seats.{seat_at, IsWatcher};
+ghost use Rattle.feed_device.specs.Calls.{NotCalled};
 ghost use Rattle.feed_device.specs.Sockets.{AllSockets};
 ghost use Rattle.slab.specs.Slab.{get};
 ghost use Rattle.feed_screens.specs.Pending.{total, Pays, owed_text_at};
@@ -10,6 +12,7 @@ ghost use Rattle.feed_screens.specs.Serving.{StillServesAll, StillAnswers, Still
 ghost use Rattle.feed_screens.specs.Serving.{ServesBut, HasKey, HearsAll};
 ghost use Rattle.feed_screens.specs.Held.{SameMirrors};
 ghost use Rattle.feed_screens.specs.Waiting.{HasNotWaited, IsOverdue, IsSlow, HoldsUp, RefusesOne};
+ghost use Rattle.feed_screens.specs.Waiting.{HasAsked, IsNext, IsTurnOf, IsWaiting, MayShare, WaitsSince, WantsCommit};
 
 use crate::conn::Wanted;
 use crate::screens::{Answers, Hearing, Keyed, Screens, Shown, TextId};
@@ -116,8 +119,14 @@ impl Screens {
     /// Whether a long text may be made for the connection at a place: there is room, and nobody
     /// else has waited for that for longer.
     pub(crate) fn may_take_room(&self, at: usize) -> bool
-        ensures { IsTrue result → (min (total self.now.pending.texts.list.items) (2 ^ 64 - 1)
+        ensures room { IsTrue result → (min (total self.now.pending.texts.list.items) (2 ^ 64 - 1)
             < self.now.limits.pending) }
+        // nobody goes before it
+        ensures turn { IsTrue result → self.now.is_waited ≡ true → IsTurnOf self.now.conns at }
+        // where there is room and it may not, another one goes before it
+        ensures others { result ≡ false → (min (total self.now.pending.texts.list.items)
+            (2 ^ 64 - 1) < self.now.limits.pending)
+            → (other : ℕ) × (other ≢ at) × IsNext self.now.conns other }
     {
         if !self.has_room() {
             return false;
@@ -129,7 +138,11 @@ impl Screens {
     }
 
     /// The place of the connection that has waited for longest for room, where somebody waits.
-    fn longest_waiting(&self) -> Option<usize> {
+    fn longest_waiting(&self) -> Option<usize>
+        ensures some { IfSome result (IsNext self.now.conns) }
+        ensures none { result ≡ None → self.now.is_waited ≡ true
+            → (at since : ℕ) → ¬ (WaitsSince (get self.now.conns at) since) }
+    {
         if !self.is_waited {
             return None;
         }
@@ -144,14 +157,21 @@ impl Screens {
 
     /// Whether a screen waits for a commit still. One that follows the log by now, or whose body
     /// ends, waits for none.
-    pub(crate) fn stays_waiting(&self, keyed: Keyed) -> bool {
+    pub(crate) fn stays_waiting(&self, keyed: Keyed) -> bool
+        ensures waits { IsTrue result → IsWatcher (λ s. IsCatchingUp s.way)
+            (seat_at self.now.hub.seats.slab keyed.key)
+            × ¬ (MayShare self.now.hub (get self.now.conns keyed.at)) }
+        ensures commit { IsTrue result → WantsCommit (get self.now.conns keyed.at) }
+    {
         self.wants_commit(keyed.at)
             && self.hub.catches_up(keyed.key)
             && !self.may_take_room(keyed.at)
             && !self.may_share(keyed.at)
     }
 
-    fn wants_commit(&self, at: usize) -> bool {
+    fn wants_commit(&self, at: usize) -> bool
+        ensures { IsTrue result ↔ WantsCommit (get self.now.conns at) }
+    {
         match self.conns.get(at) {
             Some(conn) => conn.wants_commit().is_some(),
             None => false,
@@ -160,7 +180,9 @@ impl Screens {
 
     /// Whether the screen at a place waits for a commit that perhaps another one has by now, and
     /// its socket may take that.
-    pub(crate) fn may_share(&self, at: usize) -> bool {
+    pub(crate) fn may_share(&self, at: usize) -> bool
+        ensures { IsTrue result ↔ MayShare self.now.hub (get self.now.conns at) }
+    {
         let Some(conn) = self.conns.get(at) else {
             return false;
         };
@@ -223,6 +245,7 @@ impl Screens {
             self.new (S.socket sockets.old) (S.socket sockets.new) }
         ensures mirrors { SameMirrors answers.old answers.new }
         ensures asks { S.asked sockets.new ≡ S.asked sockets.old }
+        ensures tries { NotCalled (S.tried sockets.old) (S.tried sockets.new) }
     {
         self.serve_first(desk, sockets, answers, shown);
         if answers.shown.has_text() {
@@ -242,6 +265,7 @@ impl Screens {
             self.new (S.socket sockets.old) (S.socket sockets.new) }
         ensures mirrors { SameMirrors answers.old answers.new }
         ensures asks { S.asked sockets.new ≡ S.asked sockets.old }
+        ensures tries { NotCalled (S.tried sockets.old) (S.tried sockets.new) }
     {
         for _ in 0..ANSWERS {
             let Some(at) = self.longest_waiting() else {
@@ -267,6 +291,7 @@ impl Screens {
             self.new (S.socket sockets.old) (S.socket sockets.new) }
         ensures mirrors { SameMirrors answers.old answers.new }
         ensures asks { S.asked sockets.new ≡ S.asked sockets.old }
+        ensures tries { NotCalled (S.tried sockets.old) (S.tried sockets.new) }
     {
         for at in 0..self.conns.capacity() {
             self.share_at(desk, sockets, answers, shown, at);
@@ -286,6 +311,7 @@ impl Screens {
             self.new (S.socket sockets.old) (S.socket sockets.new) }
         ensures mirrors { SameMirrors answers.old answers.new }
         ensures asks { S.asked sockets.new ≡ S.asked sockets.old }
+        ensures tries { NotCalled (S.tried sockets.old) (S.tried sockets.new) }
     {
         if self.wants_answer(at) {
             self.serve_at(desk, sockets, answers, shown, at);
@@ -293,12 +319,16 @@ impl Screens {
     }
 
     /// Whether the connection at a place waits for room.
-    fn waits(&self, at: usize) -> bool {
+    fn waits(&self, at: usize) -> bool
+        ensures { IsTrue result ↔ IsWaiting (get self.now.conns at) }
+    {
         self.conns.get(at).is_some_and(|conn| conn.wait.is_some())
     }
 
     /// Whether the request of the connection at a place waits for room.
-    pub(crate) fn wants_answer(&self, at: usize) -> bool {
+    pub(crate) fn wants_answer(&self, at: usize) -> bool
+        ensures { IsTrue result ↔ HasAsked (get self.now.conns at) }
+    {
         self.conns.get(at).is_some_and(|conn| conn.wants_answer())
     }
 
@@ -316,6 +346,7 @@ impl Screens {
             self.new (S.socket sockets.old) (S.socket sockets.new) }
         ensures mirrors { SameMirrors answers.old answers.new }
         ensures asks { S.asked sockets.new ≡ S.asked sockets.old }
+        ensures tries { NotCalled (S.tried sockets.old) (S.tried sockets.new) }
     {
         self.answer_at(desk, sockets, answers, shown, at);
         self.drain(desk, sockets, answers.shown.node(), at);
@@ -335,6 +366,7 @@ impl Screens {
             self.new (S.socket sockets.old) (S.socket sockets.new) }
         ensures mirrors { SameMirrors answers.old answers.new }
         ensures asks { S.asked sockets.new ≡ S.asked sockets.old }
+        ensures tries { NotCalled (S.tried sockets.old) (S.tried sockets.new) }
     {
         let Some(key) = self.asking(at) else {
             return;
@@ -354,6 +386,7 @@ impl Screens {
             → seat_at self.new.hub.seats.slab key ≡ seat_at self.old.hub.seats.slab key }
         ensures time { desk.new.time ≡ desk.old.time }
         ensures asks { S.asked sockets.new ≡ S.asked sockets.old }
+        ensures tries { NotCalled (S.tried sockets.old) (S.tried sockets.new) }
     {
         if !self.is_waited {
             return;
@@ -372,6 +405,7 @@ impl Screens {
         ensures refuses { RefusesOne self.old self.new at desk.old.time }
         ensures time { desk.new.time ≡ desk.old.time }
         ensures asks { S.asked sockets.new ≡ S.asked sockets.old }
+        ensures tries { NotCalled (S.tried sockets.old) (S.tried sockets.new) }
     {
         if self.is_overdue(at, desk.time) {
             self.refuse_at(desk, sockets, at);
@@ -390,6 +424,7 @@ impl Screens {
             → (at : ℕ) → ¬ (HoldsUp self.new at desk.old.time) }
         ensures time { desk.new.time ≡ desk.old.time }
         ensures asks { S.asked sockets.new ≡ S.asked sockets.old }
+        ensures tries { NotCalled (S.tried sockets.old) (S.tried sockets.new) }
     {
         if self.is_waited {
             self.has_more = true;
@@ -408,7 +443,7 @@ impl Screens {
     }
 
     fn is_overdue(&self, at: usize, now: u64) -> bool
-        ensures { IsTrue result → IsOverdue (get self.now.conns at) now }
+        ensures { IsTrue result ↔ IsOverdue (get self.now.conns at) now }
     {
         match self.conns.get(at) {
             Some(conn) => conn.is_overdue(now),

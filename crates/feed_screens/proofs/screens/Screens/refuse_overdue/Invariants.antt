@@ -1,4 +1,5 @@
 use Rattle.std.proofs.Common.{◌≡◌, ℕ, List}
+use Rattle.feed_device.specs.Calls.{NotCalled}
 use Rattle.feed_node.specs.States.{NodeState}
 use Rattle.feed_screens.specs.Serving.{StillServing}
 use Rattle.feed_screens.proofs.RoomLemmas.{RefusesOverdue}
@@ -11,5 +12,6 @@ invariant-loop-at g l =
           → StillServing nodes contest l.initial.self l.self (g.S.Sockets.socket l.initial.sockets) (g.S.Sockets.socket l.sockets);
       time : l.desk.time ≡ l.initial.desk.time;
       asks : g.S.Sockets.asked l.sockets ≡ g.S.Sockets.asked l.initial.sockets;
+      tries : NotCalled (g.S.Sockets.tried l.initial.sockets) (g.S.Sockets.tried l.sockets);
       refuses : RefusesOverdue l.initial.self l.self l.initial.desk.time;
     }
