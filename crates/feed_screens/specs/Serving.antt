@@ -14,10 +14,11 @@ use Rattle.feed_hub.specs.declared.screen.Way.{Way}
 use Rattle.feed_hub.specs.declared.screen.Way.TheVariants.{CatchesUp, OnLog, Stops, Over}
 use Rattle.feed_hub.specs.declared.seats.Seat.{Seat}
 use Rattle.feed_hub.specs.declared.seats.Seat.TheVariants.{Asks, Watches}
-use Rattle.feed_hub.specs.Hub.{IsSeated, ChangesOnly}
+use Rattle.feed_hub.specs.declared.screen.Refill.{Refill}
+use Rattle.feed_hub.specs.Hub.{IsSeated, ChangesOnly, Refills}
 use Rattle.feed_hub.specs.Backlog.{Backlog}
 use Rattle.feed_hub.specs.Screen.{IsServed}
-use Rattle.feed_hub.specs.Seats.{seat_at}
+use Rattle.feed_hub.specs.Seats.{seat_at, IsOverSeat, Watched}
 use Rattle.feed_screens.specs.declared.conn.Conn.{Conn}
 use Rattle.feed_screens.specs.declared.conn.Phase.TheVariants.{Watches as Watching}
 use Rattle.feed_screens.specs.declared.screens.Answers.{Answers}
@@ -250,6 +251,19 @@ abbrev pub IsWritable : Option Conn → Key → Type 0
 IsWritable None key = ⊥
 IsWritable (Some conn) key =
     (conn.key ≡ Some key) × (conn.phase ≡ Watching) × (conn.is_blocked ≡ false)
+
+-- what sits there once it has what comes next for it
+pub record GetsNext (hub : Hub) (node : NodeState) (has_room : Bool) (now : ℕ) (key : Key)
+    (seat : Option Seat) : Type 0 where
+  pub got : Refill
+  pub next : Watched (Refills hub.broadcast node has_room now got) (seat_at hub.seats.slab key) seat
+
+-- it was sent all, and what comes next for it is nothing, ever
+pub record IsAtEnd (hub : Hub) (node : NodeState) (now : ℕ) (key : Key) : Type 0 where
+  pub has_room : Bool
+  pub seat : Option Seat
+  pub next : GetsNext hub node has_room now key seat
+  pub over : IsOverSeat seat
 
 -- ---- what was said
 

@@ -1,18 +1,20 @@
 -- Who waits for room, and for how long; and who takes a text so slowly that it is cut for that.
-use Rattle.std.specs.Prelude.{◌≡◌, ◌≢◌, ◌⊎◌, ℕ, ◌<◌, ◌≤◌, ◌+◌, ◌-◌, ◌*◌, ◌^◌, min, Bool, true, false, Option, Some, None, IfSome}
+use Rattle.std.specs.Prelude.{◌≡◌, ◌≢◌, ◌⊎◌, ℕ, ◌<◌, ◌≤◌, ◌+◌, ◌-◌, ◌*◌, ◌^◌, min, Bool, true, false, List, length, Option, Some, None, IfSome}
 use Rattle.std.specs.List.{list_any}
 use Rattle.slab.specs.Slab.{Slab, get}
 use Rattle.feed_hub.specs.declared.hub.Hub.{Hub}
 use Rattle.feed_hub.specs.declared.seats.Key.{Key}
+use Rattle.feed_hub.specs.declared.seats.Seat.{Seat}
 use Rattle.feed_hub.specs.Frames.{is_since}
-use Rattle.feed_hub.specs.Seats.{seat_at}
+use Rattle.feed_hub.specs.Hub.{HoldsAt}
+use Rattle.feed_hub.specs.Seats.{seat_at, IsAskingSeat}
 use Rattle.feed_screens.specs.declared.conn.Conn.{Conn}
 use Rattle.feed_screens.specs.declared.conn.Wait.{Wait}
 use Rattle.feed_screens.specs.declared.conn.Wanted.{Wanted}
 use Rattle.feed_screens.specs.declared.conn.Wanted.TheVariants.{Answer, Commit}
 use Rattle.feed_screens.specs.declared.screens.Screens.{Screens}
 use Rattle.feed_screens.specs.Held.{IsToBeRead}
-use Rattle.feed_screens.specs.Pending.{owed_text_at}
+use Rattle.feed_screens.specs.Pending.{total, owed_text_at}
 use Rattle.feed_screens.specs.Serving.{key_at}
 
 -- its answer has waited for room for thirty seconds
@@ -26,10 +28,27 @@ abbrev pub IsOverdue : Option Conn → ℕ → Type 0
 IsOverdue None now = ⊥
 IsOverdue (Some conn) now = HasWaited conn.wait now
 
+-- the request of the connection at a place comes: no answer to it was begun
+pub record IsAskingAt (screens : Screens) (at : ℕ) : Type 0 where
+  pub key : Key
+  pub keyed : key_at screens.conns at ≡ Some (Some key)
+  pub asks : IsAskingSeat (seat_at screens.hub.seats.slab key)
+
+-- and it has waited for room for too long
+pub record IsOverdueAt (screens : Screens) (at now : ℕ) : Type 0 where
+  pub asks : IsAskingAt screens at
+  pub overdue : IsOverdue (get screens.conns at) now
+
 -- so it is with no connection that has this key
 abbrev pub HasNotWaited : Slab Conn → Key → ℕ → Type 0
 HasNotWaited conns key now =
     (at : ℕ) → key_at conns at ≡ Some (Some key) → ¬ (IsOverdue (get conns at) now)
+
+-- the long texts that screens have yet to take have fewer bytes together than they may: so one more
+-- may be made
+abbrev pub HasRoom : Screens → Type 0
+HasRoom screens =
+    min (total screens.pending.texts.list.items) (2 ^ 64 - 1) < screens.limits.pending
 
 -- its answer waits for room
 abbrev pub WantsAnswer : Option Wait → Type 0
@@ -60,10 +79,23 @@ abbrev pub IsWaiting : Option Conn → Type 0
 IsWaiting None = ⊥
 IsWaiting (Some conn) = conn.wait ≢ None
 
+-- Of these bytes not all were taken for the request that comes there, as it ends before the last:
+-- something comes behind it. Or no request comes.
+abbrev pub IsFollowed : ℕ → List ℕ → Option Seat → Option Seat → Type 0
+IsFollowed until piece old new =
+    (taken : ℕ) × (taken < length piece) × HoldsAt until piece taken old new
+
 -- since when it waits for what it wants now: it may have waited for something before
 abbrev pub waits_since : Option Wait → ℕ → ℕ
 waits_since None now = now
 waits_since (Some wait) now = wait.since
+
+-- it waits for this from now on, or for as long as it has waited
+abbrev pub waiting_for : Wanted → ℕ → Conn → Conn
+waiting_for wanted now conn =
+    record conn {
+      wait = Some (record { since = waits_since conn.wait now; wanted = wanted });
+    }
 
 -- the connection waits for room since a time, and its socket may take something
 abbrev pub WaitsSince : Option Conn → ℕ → Type 0

@@ -3,7 +3,7 @@
 ghost use Rattle.std.specs.Prelude.{◌≡◌, ◌⊎◌, ◌↔◌, ◌+◌, ◌-◌, ◌^◌, ℕ, min, None, Some, IsTrue, IfSome};
 ghost use Rattle.feed_screens.specs.Held.{HasLingered, woken};
 ghost use Rattle.feed_screens.specs.Seating.{connected, SentEndWithKey, Lingers, lingers_from, lingers_less, HasReadAll};
-ghost use Rattle.feed_screens.specs.Waiting.{HasWaited, TakesSlowly, WantsAnswer, WaitsSince, IsFoundBy, waits_since, wanted_commit};
+ghost use Rattle.feed_screens.specs.Waiting.{HasWaited, TakesSlowly, WantsAnswer, WaitsSince, IsFoundBy, waiting_for, wanted_commit};
 
 use crate::times::{LINGER, PATIENCE, ROOM_TIME, SHARE_TIME};
 use feed_hub::Key;
@@ -148,9 +148,7 @@ impl Conn {
 
     /// It waits for this from now on, or for as long as it has waited.
     pub(crate) fn wait_for(&mut self, wanted: Wanted, now: u64)
-        ensures { self.new ≡ record self.old {
-          wait = Some (record { since = waits_since self.old.wait now; wanted = wanted });
-        } }
+        ensures { self.new ≡ waiting_for wanted now self.old }
     {
         let since = match self.wait {
             Some(wait) => wait.since,

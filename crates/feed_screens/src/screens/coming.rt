@@ -4,12 +4,12 @@ ghost use Rattle.std.specs.Prelude.{◌≡◌, ◌≢◌, ◌<◌, ◌≤◌, �
 ghost use Rattle.slab.specs.Slab.{get};
 ghost use Rattle.feed_node.specs.States.{NodeState};
 ghost use Rattle.feed_hub.specs.Hub.{IsNew};
-ghost use Rattle.feed_hub.specs.Seats.{seat_at};
+ghost use Rattle.feed_hub.specs.Seats.{seat_at, IsAskingSeat};
 ghost use Rattle.feed_device.specs.Calls.{CalledOnce, CalledAtLeastOnce, NotCalled};
 ghost use Rattle.feed_device.specs.Sockets.{opened, former_of, IsSocket, OtherSockets};
 ghost use Rattle.feed_screens.specs.Serving.{StillServesAll, StillServingWith, StillStand, SameSeating, IsSent};
 ghost use Rattle.feed_screens.specs.Serving.{IsGreeted, HasNoSeat, key_at};
-ghost use Rattle.feed_screens.specs.Waiting.{IsSlow, HoldsUp, RefusesAt};
+ghost use Rattle.feed_screens.specs.Waiting.{IsAskingAt, IsSlow, HoldsUp, RefusesAt};
 ghost use Rattle.feed_screens.specs.Seating.{comes_until, HasFreeSeat, HasNewKey, HasSentEnd, IsLingering};
 
 use crate::conn::{Conn, Phase};
@@ -265,6 +265,10 @@ impl Screens {
             (S.socket sockets.old) (S.socket sockets.new) }
         // nobody else is
         ensures refuses { RefusesAt self.old self.new at }
+        // its request comes no more, and no other one begins
+        ensures goes { ¬ (IsAskingAt self.new at) }
+        ensures asking { (key : Key) → IsAskingSeat (seat_at self.new.hub.seats.slab key)
+            → IsAskingSeat (seat_at self.old.hub.seats.slab key) }
         ensures time { desk.new.time ≡ desk.old.time }
         ensures asks { S.asked sockets.new ≡ S.asked sockets.old }
         ensures tries { NotCalled (S.tried sockets.old) (S.tried sockets.new) }

@@ -1,15 +1,17 @@
 //! What screens are sent: each is written to once in a turn.
 
-ghost use Rattle.std.specs.Prelude.{◌≡◌, ◌≢◌, [], ℕ, List, None, Some, Contains, IsTrue, IfSome};
+ghost use Rattle.std.specs.Prelude.{◌≡◌, ◌≢◌, [], ℕ, Bool, false, List, None, Some, Contains, IsTrue, IfSome, is_err};
 ghost use Rattle.feed_node.specs.States.{NodeState};
 ghost use Rattle.feed_hub.specs.Hub.{prefix_at};
+ghost use Rattle.feed_hub.specs.Seats.{seat_at};
 ghost use Rattle.feed_device.specs.Calls.{CalledOnce, NotCalled};
 ghost use Rattle.slab.specs.Slab.{get};
 ghost use Rattle.feed_screens.specs.declared.conn.Phase.TheVariants.{Asks};
 ghost use Rattle.feed_screens.specs.Held.{IsAt};
 ghost use Rattle.feed_screens.specs.Seating.{lingers_from};
 ghost use Rattle.feed_screens.specs.Serving.{StillServing, StillServesFrom, StillServes, SameSeating};
-ghost use Rattle.feed_screens.specs.Serving.{HasKey, SameKeys, LeavesSeat, IsWritable, key_at, keyless};
+ghost use Rattle.feed_screens.specs.Waiting.{HasRoom};
+ghost use Rattle.feed_screens.specs.Serving.{GetsNext, HasKey, IsAtEnd, SameKeys, LeavesSeat, IsWritable, key_at, keyless};
 
 use crate::conn::{Phase, Wanted};
 use crate::hand::hand;
@@ -125,6 +127,10 @@ impl Screens {
         ensures stays { IsTrue result
             → key_at self.new.conns keyed.at ≡ key_at self.old.conns keyed.at }
         ensures has { prefix_at self.old.hub keyed.key ≢ [] → IsTrue result }
+        // only who was sent all, and the end of it, is shut
+        ensures shuts { HasKey self.old.conns keyed
+            → key_at self.new.conns keyed.at ≡ Some None
+            → IsAtEnd self.old.hub node.now.shown desk.old.time keyed.key }
         ensures offers { NotCalled (S.offered sockets.old) (S.offered sockets.new) }
         ensures asks { S.asked sockets.new ≡ S.asked sockets.old }
         ensures tries { NotCalled (S.tried sockets.old) (S.tried sockets.new) }
@@ -157,6 +163,11 @@ impl Screens {
     fn refill(&mut self, desk: &Desk, node: &Node, keyed: Keyed) -> Result<(), AllocError>
         ensures serving { StillServes node.now.shown self.old self.new }
         ensures keys { SameKeys self.old.conns self.new.conns }
+        // it has what comes next: a long text that no screen has yet only where there is room
+        ensures next { is_err result ≡ false → (has_room : Bool)
+            × (IsTrue has_room → HasRoom self.old)
+            × GetsNext self.old.hub node.now.shown has_room desk.now.time keyed.key
+            (seat_at self.new.hub.seats.slab keyed.key) }
     {
         let has_room = self.may_take_room(keyed.at);
         let got = self

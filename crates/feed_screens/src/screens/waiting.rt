@@ -1,18 +1,18 @@
 //! Who waits for room: long texts that screens have yet to take have a limit together.
 
-ghost use Rattle.std.specs.Prelude.{◌≡◌, ◌≢◌, ◌<◌, ◌≤◌, ◌↔◌, ◌^◌, ◌-◌, [], ℕ, List, None, Some, min, true, false, IsTrue, IfSome, OnOk};
+ghost use Rattle.std.specs.Prelude.{◌≡◌, ◌≢◌, ◌<◌, ◌≤◌, ◌↔◌, ◌^◌, ◌-◌, [], ℕ, List, None, Some, ◌+◌, min, true, false, Ok, IsTrue, IfOk, IfSome, OnOk, option_map};
 ghost use Rattle.feed_node.specs.States.{NodeState};
 ghost use Rattle.feed_hub.specs.Steps.{IsCatchingUp};
-ghost use Rattle.feed_hub.specs.Seats.{seat_at, IsWatcher};
+ghost use Rattle.feed_hub.specs.Seats.{seat_at, IsAskingSeat, IsWatcher};
 ghost use Rattle.feed_device.specs.Calls.{NotCalled};
 ghost use Rattle.feed_device.specs.Sockets.{AllSockets};
 ghost use Rattle.slab.specs.Slab.{get};
-ghost use Rattle.feed_screens.specs.Pending.{total, Pays, owed_text_at};
+ghost use Rattle.feed_screens.specs.Pending.{Pays, owed_text_at};
 ghost use Rattle.feed_screens.specs.Serving.{StillServesAll, StillAnswers, StillStand, SameSeating};
 ghost use Rattle.feed_screens.specs.Serving.{ServesBut, HasKey, HearsAll};
 ghost use Rattle.feed_screens.specs.Held.{SameMirrors};
 ghost use Rattle.feed_screens.specs.Waiting.{HasNotWaited, IsOverdue, IsSlow, HoldsUp, RefusesOne};
-ghost use Rattle.feed_screens.specs.Waiting.{HasAsked, IsNext, IsTurnOf, IsWaiting, MayShare, WaitsSince, WantsCommit};
+ghost use Rattle.feed_screens.specs.Waiting.{HasAsked, HasRoom, IsNext, IsFollowed, IsOverdueAt, IsTurnOf, IsWaiting, MayShare, WaitsSince, WantsCommit, waiting_for};
 
 use crate::conn::Wanted;
 use crate::screens::{Answers, Hearing, Keyed, Screens, Shown, TextId};
@@ -28,8 +28,7 @@ impl Screens {
     /// Whether a long text may be made: those that screens have yet to take have fewer bytes than
     /// they may. So one may be made whatever its length, where there is no other.
     pub(crate) fn has_room(&self) -> bool
-        ensures { IsTrue result ↔ (min (total self.now.pending.texts.list.items) (2 ^ 64 - 1)
-            < self.now.limits.pending) }
+        ensures { IsTrue result ↔ HasRoom self.now }
     {
         self.pending.total() < self.limits.pending
     }
@@ -108,7 +107,10 @@ impl Screens {
 
     /// The connection at a place waits for this from now on, or for as long as it has waited.
     pub(crate) fn wait_for(&mut self, at: usize, wanted: Wanted, now: u64)
-        ensures { SameSeating self.old self.new }
+        ensures same { SameSeating self.old self.new }
+        ensures waited { self.new.is_waited ≡ true }
+        ensures here { get self.new.conns at
+            ≡ option_map (waiting_for wanted now) (get self.old.conns at) }
     {
         self.is_waited = true;
         if let Some(conn) = self.conns.get_mut(at) {
@@ -119,13 +121,11 @@ impl Screens {
     /// Whether a long text may be made for the connection at a place: there is room, and nobody
     /// else has waited for that for longer.
     pub(crate) fn may_take_room(&self, at: usize) -> bool
-        ensures room { IsTrue result → (min (total self.now.pending.texts.list.items) (2 ^ 64 - 1)
-            < self.now.limits.pending) }
+        ensures room { IsTrue result → HasRoom self.now }
         // nobody goes before it
         ensures turn { IsTrue result → self.now.is_waited ≡ true → IsTurnOf self.now.conns at }
         // where there is room and it may not, another one goes before it
-        ensures others { result ≡ false → (min (total self.now.pending.texts.list.items)
-            (2 ^ 64 - 1) < self.now.limits.pending)
+        ensures others { result ≡ false → HasRoom self.now
             → (other : ℕ) × (other ≢ at) × IsNext self.now.conns other }
     {
         if !self.has_room() {
@@ -222,6 +222,14 @@ impl Screens {
             → HasKey self.old.conns keyed
             → ServesBut nodes contest self.old.hub self.old.conns sockets keyed.at piece.now
             → HearsAll nodes contest self.new sockets keyed.at result }
+        // it waits, unless something comes behind the request
+        ensures goes { result ≡ Ok Hearing.Goes → (self.new.is_waited ≡ true)
+            × (get self.new.conns keyed.at
+            ≡ option_map (waiting_for Wanted.Answer now) (get self.old.conns keyed.at)) }
+        ensures others { IfOk result (λ heard. heard ≢ Hearing.Goes
+            → IsFollowed (min (now + 60000) (2 ^ 64 - 1)) piece.now
+            (seat_at self.old.hub.seats.slab keyed.key)
+            (seat_at self.new.hub.seats.slab keyed.key)) }
     {
         let until = now.saturating_add(2 * ROOM_TIME);
         let taken = self.hub.hold(keyed.key, piece, until)?;
@@ -384,6 +392,12 @@ impl Screens {
             → get self.new.conns at ≡ get self.old.conns at }
         ensures seats { (key : Key) → HasNotWaited self.old.conns key desk.old.time
             → seat_at self.new.hub.seats.slab key ≡ seat_at self.old.hub.seats.slab key }
+        // and of those who have nobody asks any more
+        ensures goes { self.old.is_waited ≡ true
+            → (at : ℕ) → ¬ (IsOverdueAt self.new at desk.old.time) }
+        // nobody who waits is forgotten
+        ensures waits { self.old.is_waited ≡ true → self.new.is_waited ≡ false
+            → (at : ℕ) → ¬ (IsWaiting (get self.new.conns at)) }
         ensures time { desk.new.time ≡ desk.old.time }
         ensures asks { S.asked sockets.new ≡ S.asked sockets.old }
         ensures tries { NotCalled (S.tried sockets.old) (S.tried sockets.new) }
@@ -403,6 +417,10 @@ impl Screens {
         ensures serving { StillServesAll self.old self.new
             (S.socket sockets.old) (S.socket sockets.new) }
         ensures refuses { RefusesOne self.old self.new at desk.old.time }
+        // one that has waited for so long asks no more
+        ensures goes { ¬ (IsOverdueAt self.new at desk.old.time) }
+        ensures asking { (key : Key) → IsAskingSeat (seat_at self.new.hub.seats.slab key)
+            → IsAskingSeat (seat_at self.old.hub.seats.slab key) }
         ensures time { desk.new.time ≡ desk.old.time }
         ensures asks { S.asked sockets.new ≡ S.asked sockets.old }
         ensures tries { NotCalled (S.tried sockets.old) (S.tried sockets.new) }
@@ -433,7 +451,10 @@ impl Screens {
     }
 
     /// Whether somebody waits for room.
-    fn somebody_waits(&self) -> bool {
+    fn somebody_waits(&self) -> bool
+        ensures none { result ≡ false → (at : ℕ) → ¬ (IsWaiting (get self.now.conns at)) }
+        ensures some { result ≡ true → (at : ℕ) × IsWaiting (get self.now.conns at) }
+    {
         for at in 0..self.conns.capacity() {
             if self.waits(at) {
                 return true;
