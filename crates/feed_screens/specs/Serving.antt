@@ -1,6 +1,6 @@
 -- THE PROMISE, up to each socket: what is written to it is what the hub counts at the key of its
 -- connection, and so a prefix of what is due to the answer that one of the nodes gave.
-use Rattle.std.specs.Prelude.{◌≡◌, ℕ, zero, suc, ◌<◌, ◌≤◌, ◌+◌, ◌-◌, ◌^◌, min, List, [], ◌++◌, take, drop, Option, Some, None, Bool, true, false, Result, MatchResult, Contains, IfSome, ◌⊎◌}
+use Rattle.std.specs.Prelude.{◌≡◌, ◌≢◌, ℕ, zero, suc, ◌<◌, ◌≤◌, ◌+◌, ◌-◌, ◌^◌, min, List, [], ◌++◌, take, drop, Option, Some, None, Bool, true, false, Result, MatchResult, Contains, IfSome, ◌⊎◌}
 use Rattle.std.specs.List.{AllByRecursion}
 use Rattle.slab.specs.Slab.{Slab, get}
 use Rattle.feed_settings.specs.declared.framing.Framing.{Framing}
@@ -103,6 +103,14 @@ key_at conns at = key_of (get conns at)
 -- the connection at a place has this key
 abbrev pub HasKey : Slab Conn → Keyed → Type 0
 HasKey conns keyed = key_at conns keyed.at ≡ Some (Some keyed.key)
+
+-- no connection at another place has this key
+abbrev pub IsAlone : Slab Conn → Key → ℕ → Type 0
+IsAlone conns key at = (other : ℕ) → key_at conns other ≡ Some (Some key) → other ≡ at
+
+-- each connection but the one at this place stays as it is
+abbrev pub OtherConns : Slab Conn → Slab Conn → ℕ → Type 0
+OtherConns old new at = (other : ℕ) → other ≢ at → get new other ≡ get old other
 
 -- How the socket at a number stands. Where there is no connection it is closed. A connection
 -- without a key is sent no more.

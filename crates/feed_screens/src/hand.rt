@@ -6,7 +6,7 @@ ghost use Rattle.feed_answer.specs.Answered.{AnswerParts};
 ghost use Rattle.feed_hub.specs.Hub.{IsSeated, ChangesOnly, prefix_at};
 ghost use Rattle.feed_hub.specs.Seats.{seat_at, Watched};
 ghost use Rattle.feed_hub.specs.Steps.{taken};
-ghost use Rattle.feed_device.specs.Calls.{CalledOnce, NotCalled};
+ghost use Rattle.feed_device.specs.Calls.{CalledOnce, NotCalled, OthersNotCalled};
 ghost use Rattle.feed_device.specs.Sockets.{IsWrite, OtherSockets};
 
 use feed_device::{Sockets, Stop};
@@ -32,6 +32,9 @@ pub(crate) fn hand<S: Sockets>(
 
     // it is offered just once
     ensures offers { CalledOnce (S.offered sockets.old at) (S.offered sockets.new at) }
+
+    // and no other one
+    ensures unoffered { OthersNotCalled (S.offered sockets.old) (S.offered sockets.new) at }
 
     // and nothing else changes
     ensures exact { IfOk result (λ count. Watched (λ s t. t ≡ taken count now s)

@@ -208,6 +208,7 @@ impl Screens {
         ensures owed { (other : ℕ) → other ≢ at
             → owed_text_at self.new.pending.places.items other
             ≡ owed_text_at self.old.pending.places.items other }
+        ensures log { self.new.hub.broadcast ≡ self.old.hub.broadcast }
         ensures time { desk.new.time ≡ desk.old.time }
     {
         sockets.close(at);

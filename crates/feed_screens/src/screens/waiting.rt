@@ -9,7 +9,7 @@ ghost use Rattle.feed_device.specs.Sockets.{AllSockets};
 ghost use Rattle.slab.specs.Slab.{get};
 ghost use Rattle.feed_screens.specs.Pending.{Pays, owed_text_at};
 ghost use Rattle.feed_screens.specs.Serving.{StillServesAll, StillAnswers, StillStand, SameSeating};
-ghost use Rattle.feed_screens.specs.Serving.{ServesBut, HasKey, HearsAll};
+ghost use Rattle.feed_screens.specs.Serving.{ServesBut, HasKey, HearsAll, OtherConns};
 ghost use Rattle.feed_screens.specs.Held.{SameMirrors};
 ghost use Rattle.feed_screens.specs.Waiting.{HasNotWaited, IsOverdue, IsSlow, HoldsUp, RefusesOne};
 ghost use Rattle.feed_screens.specs.Waiting.{HasAsked, HasRoom, IsNext, IsFollowed, IsOverdueAt, IsTurnOf, IsWaiting, MayShare, WaitsSince, WantsCommit, waiting_for};
@@ -50,6 +50,7 @@ impl Screens {
         now: u64,
     ) -> Result<(), AllocError>
         ensures same { SameSeating self.old self.new }
+        ensures places { OtherConns self.old.conns self.new.conns at }
         ensures counts { OnOk result (65536 ≤ length → get self.old.conns at ≢ None
             → owed_text_at self.new.pending.places.items at ≡ Some id) }
     {
@@ -98,7 +99,8 @@ impl Screens {
 
     /// The connection at a place waits for room no more.
     pub(crate) fn end_wait(&mut self, at: usize)
-        ensures { SameSeating self.old self.new }
+        ensures same { SameSeating self.old self.new }
+        ensures places { OtherConns self.old.conns self.new.conns at }
     {
         if let Some(conn) = self.conns.get_mut(at) {
             conn.wait = None;
@@ -108,6 +110,7 @@ impl Screens {
     /// The connection at a place waits for this from now on, or for as long as it has waited.
     pub(crate) fn wait_for(&mut self, at: usize, wanted: Wanted, now: u64)
         ensures same { SameSeating self.old self.new }
+        ensures places { OtherConns self.old.conns self.new.conns at }
         ensures waited { self.new.is_waited ≡ true }
         ensures here { get self.new.conns at
             ≡ option_map (waiting_for wanted now) (get self.old.conns at) }

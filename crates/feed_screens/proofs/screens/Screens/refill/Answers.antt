@@ -7,14 +7,14 @@ use Rattle.feed_screens.proofs.screens.Screens.refill.Goals as goal
 pub returns-in-Goes-clause-serving : goal.returns-in-Goes-clause-serving
 returns-in-Goes-clause-serving c =
     λ nodes contest sockets among serving.
-    serving_noted c.is_refilled.ensures
+    serving_noted c.is_refilled.ensures.same
     (serving_changed c.args.keyed.key c.refill.ensures.rest
     (still_sits contest (watched_stays nodes _ _ _ _ c.in_ok-got.ensures.ok (c.in_ok-got.ensures.served nodes among))) serving)
 
 pub returns-in-Waits-clause-serving : goal.returns-in-Waits-clause-serving
 returns-in-Waits-clause-serving c =
     λ nodes contest sockets among serving.
-    serving_noted c.wait_for_commit.ensures
+    serving_noted c.wait_for_commit.ensures.same
     (serving_changed c.args.keyed.key c.refill.ensures.rest
     (still_sits contest (watched_stays nodes _ _ _ _ c.in_ok-got.ensures.ok (c.in_ok-got.ensures.served nodes among))) serving)
 
@@ -30,7 +30,7 @@ returns-in-Goes-clause-next c =
       c.may_take_room-has_room.ensures.room,
       record {
         got = c.in_ok-got.got;
-        next = subst (λ h. Watched (Refills c.args.self.now.hub.broadcast c.args.node.now.shown c.may_take_room-has_room.result c.args.desk.now.time c.in_ok-got.got) (seat_at c.args.self.now.hub.seats.slab c.args.keyed.key) (seat_at h.seats.slab c.args.keyed.key)) (sym c.is_refilled.ensures.hub) c.in_ok-got.ensures.ok;
+        next = subst (λ h. Watched (Refills c.args.self.now.hub.broadcast c.args.node.now.shown c.may_take_room-has_room.result c.args.desk.now.time c.in_ok-got.got) (seat_at c.args.self.now.hub.seats.slab c.args.keyed.key) (seat_at h.seats.slab c.args.keyed.key)) (sym c.is_refilled.ensures.same.hub) c.in_ok-got.ensures.ok;
       },
     )
 
@@ -41,6 +41,6 @@ returns-in-Waits-clause-next c =
       c.may_take_room-has_room.ensures.room,
       record {
         got = c.in_ok-got.got;
-        next = subst (λ h. Watched (Refills c.args.self.now.hub.broadcast c.args.node.now.shown c.may_take_room-has_room.result c.args.desk.now.time c.in_ok-got.got) (seat_at c.args.self.now.hub.seats.slab c.args.keyed.key) (seat_at h.seats.slab c.args.keyed.key)) (sym c.wait_for_commit.ensures.hub) c.in_ok-got.ensures.ok;
+        next = subst (λ h. Watched (Refills c.args.self.now.hub.broadcast c.args.node.now.shown c.may_take_room-has_room.result c.args.desk.now.time c.in_ok-got.got) (seat_at c.args.self.now.hub.seats.slab c.args.keyed.key) (seat_at h.seats.slab c.args.keyed.key)) (sym c.wait_for_commit.ensures.same.hub) c.in_ok-got.ensures.ok;
       },
     )
