@@ -1,17 +1,17 @@
 -- What is pending is offered at each place, one after another.
-use Rattle.std.proofs.Common.{◌≡◌, ◌≢◌, ◌<◌, ◌≤◌, ◌+◌, arith, refl, sym, ap, ◌∙◌, subst, inl, inr, ℕ, List, [], length, Some, None}
+use Rattle.std.proofs.Common.{◌≡◌, ◌≢◌, ◌<◌, ◌≤◌, ◌+◌, arith, refl, sym, ap, ◌∙◌, subst, inl, inr, ℕ, List, [], length, Option, Some, None}
 use Rattle.std.proofs.lemmas.Bool.Decides.{eqb_tells, leb_tells}
 use Rattle.std.proofs.lemmas.List.{get_or_past}
 use Rattle.std.specs.Prelude.{leb, ◌==◌, ◌⊎◌, true, false}
 use Rattle.slab.specs.Slab.{Slab, get}
-use Rattle.feed_device.specs.Calls.{AllCalls, CalledOnce, OthersNotCalled}
+use Rattle.feed_device.specs.Calls.{AllCalls, CalledOnce, NotCalled, OthersNotCalled}
 use Rattle.feed_hub.specs.declared.hub.Hub.{Hub}
 use Rattle.feed_hub.specs.declared.seats.Key.{Key}
 use Rattle.feed_hub.specs.Hub.{prefix_at, prefix_of}
 use Rattle.feed_hub.specs.Seats.{seat_at}
 use Rattle.feed_screens.specs.declared.conn.Conn.{Conn}
 use Rattle.feed_screens.specs.declared.screens.Screens.{Screens}
-use Rattle.feed_screens.specs.Serving.{IsAlone, IsWritable, OtherConns, key_of, key_at}
+use Rattle.feed_screens.specs.Serving.{HasNoSeat, IsAlone, IsWritable, OtherConns, key_of, key_at}
 
 -- what was pending at each place below this one was offered
 abbrev pub HaveBeenOffered : Screens → AllCalls → AllCalls → ℕ → Type 0
@@ -82,3 +82,36 @@ is_within conns at key writable = by (leb_tells (length conns.slots) at)
     by (inl (_, past)) =
         let none : get conns at ≡ None = get_or_past conns.slots at None past in
         absurd (subst (λ c. IsWritable c key) none writable)
+
+-- what may be written to and has something pending was not cut, and is the same after a sweep
+pub offered_after_sweep : (old swept : Screens) (first mid last : AllCalls) (at : ℕ) (key : Key)
+    → ((at : ℕ) → (HasNoSeat old.hub (get old.conns at) → ⊥) → get swept.conns at ≡ get old.conns at)
+    → ((at : ℕ) → (get swept.conns at ≡ get old.conns at) ⊎ (get swept.conns at ≡ None))
+    → ((key : Key) → seat_at swept.hub.seats.slab key ≡ seat_at old.hub.seats.slab key)
+    → swept.hub.broadcast ≡ old.hub.broadcast → NotCalled first mid
+    → ((at : ℕ) (key : Key) → IsWritable (get swept.conns at) key → prefix_at swept.hub key ≢ [] → IsAlone swept.conns key at → CalledOnce (mid at) (last at))
+    → IsWritable (get old.conns at) key → prefix_at old.hub key ≢ [] → IsAlone old.conns key at → CalledOnce (first at) (last at)
+offered_after_sweep old swept first mid last at key stays places seats log none here writable pending alone =
+    subst (λ c. CalledOnce c (last at)) (none at)
+    (here at key (subst (λ c. IsWritable c key) (sym (stays at seated)) writable)
+    (λ empty. pending (sym (prefix_same old.hub swept.hub key log (seats key)) ∙ empty)) still_alone)
+  where
+    same_key : {a b : Key} → Some a ≡ Some b → a ≡ b
+    same_key e = cc
+
+    no_seat : (conn : Option Conn) → IsWritable conn key → HasNoSeat old.hub conn → ⊥
+    no_seat None writes cut = writes
+    no_seat (Some conn) writes cut =
+        let held : Some cut.0 ≡ Some key = sym cut.1 ∙ writes.0 in
+        let gone : seat_at old.hub.seats.slab key ≡ None = subst (λ k. seat_at old.hub.seats.slab k ≡ None) (same_key held) cut.2 in
+        pending (ap (prefix_of old.hub.broadcast.log) gone)
+
+    seated : HasNoSeat old.hub (get old.conns at) → ⊥
+    seated = no_seat (get old.conns at) writable
+
+    still_alone : IsAlone swept.conns key at
+    still_alone other is = by (places other)
+      where
+        by : (get swept.conns other ≡ get old.conns other) ⊎ (get swept.conns other ≡ None) → other ≡ at
+        by (inl same) = alone other (ap key_of (sym same) ∙ is)
+        by (inr gone) = absurd (let no : None ≡ Some (Some key) = ap key_of (sym gone) ∙ is in cc)

@@ -1,6 +1,6 @@
 //! The screens: each has a socket, a connection at the same place, and a seat in the hub.
 
-ghost use Rattle.std.specs.Prelude.{◌≡◌, ◌==◌, ◌↔◌, true, ◌≢◌, ◌+◌, ◌-◌, ℕ, List, None, Some, min, false, IsTrue};
+ghost use Rattle.std.specs.Prelude.{◌≡◌, ◌⊎◌, ◌==◌, ◌↔◌, true, ◌≢◌, ◌+◌, ◌-◌, ℕ, List, None, Some, min, false, IsTrue};
 ghost use Rattle.slab.specs.Slab.{get, slab_len};
 ghost use Rattle.feed_node.specs.States.{NodeState};
 ghost use Rattle.feed_hub.specs.Seats.{seat_at};
@@ -275,6 +275,13 @@ impl Screens {
             → get self.new.conns at ≡ get self.old.conns at }
         // and of those whom it cut nobody
         ensures goes { (at : ℕ) → ¬ (HasNoSeat self.new.hub (get self.new.conns at)) }
+        // who stays has its seat, and nothing is written
+        ensures places { (at : ℕ) → (get self.new.conns at ≡ get self.old.conns at)
+            ⊎ (get self.new.conns at ≡ None) }
+        ensures seats { (key : Key)
+            → seat_at self.new.hub.seats.slab key ≡ seat_at self.old.hub.seats.slab key }
+        ensures log { self.new.hub.broadcast ≡ self.old.hub.broadcast }
+        ensures offers { NotCalled (S.offered sockets.old) (S.offered sockets.new) }
         ensures time { desk.new.time ≡ desk.old.time }
     {
         for at in 0..self.conns.capacity() {
