@@ -120,6 +120,10 @@ pub record IsNext (conns : Slab Conn) (at : ℕ) : Type 0 where
   pub waits : WaitsSince (get conns at) since
   pub first : (other later : ℕ) → WaitsSince (get conns other) later → since ≤ later
 
+-- another one is next
+abbrev pub IsAnotherNext : Slab Conn → ℕ → Type 0
+IsAnotherNext conns at = (other : ℕ) × (other ≢ at) × IsNext conns other
+
 -- it waits for a commit that perhaps another screen has by now, and its socket may take that
 abbrev pub WasMade : Hub → Option (ℕ × ℕ) → Type 0
 WasMade hub None = ⊥

@@ -10,7 +10,7 @@ ghost use Rattle.feed_screens.specs.declared.conn.Phase.TheVariants.{Asks};
 ghost use Rattle.feed_screens.specs.Held.{IsAt};
 ghost use Rattle.feed_screens.specs.Seating.{lingers_from};
 ghost use Rattle.feed_screens.specs.Serving.{StillServing, StillServesFrom, StillServes, SameSeating};
-ghost use Rattle.feed_screens.specs.Waiting.{HasRoom};
+ghost use Rattle.feed_screens.specs.Waiting.{HasRoom, IsAnotherNext};
 ghost use Rattle.feed_screens.specs.Serving.{GetsNext, HasKey, IsAlone, IsAtEnd, OtherConns, SameKeys, LeavesSeat, IsWritable, key_at, keyless};
 
 use crate::conn::{Phase, Wanted};
@@ -183,9 +183,9 @@ impl Screens {
         ensures seats { (key : Key) → key ≢ keyed.key
             → seat_at self.new.hub.seats.slab key ≡ seat_at self.old.hub.seats.slab key }
         ensures log { self.new.hub.broadcast ≡ self.old.hub.broadcast }
-        // it has what comes next: a long text that no screen has yet only where there is room
+        // it has what comes next; or it waits, where there is no room or another one is next
         ensures next { is_err result ≡ false → (has_room : Bool)
-            × (IsTrue has_room → HasRoom self.old)
+            × (has_room ≡ false → HasRoom self.old → IsAnotherNext self.old.conns keyed.at)
             × GetsNext self.old.hub node.now.shown has_room desk.now.time keyed.key
             (seat_at self.new.hub.seats.slab keyed.key) }
     {

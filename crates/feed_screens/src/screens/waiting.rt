@@ -12,7 +12,7 @@ ghost use Rattle.feed_screens.specs.Serving.{StillServesAll, StillAnswers, Still
 ghost use Rattle.feed_screens.specs.Serving.{ServesBut, HasKey, HearsAll, OtherConns};
 ghost use Rattle.feed_screens.specs.Held.{SameMirrors};
 ghost use Rattle.feed_screens.specs.Waiting.{HasNotWaited, IsOverdue, IsSlow, HoldsUp, RefusesOne};
-ghost use Rattle.feed_screens.specs.Waiting.{HasAsked, HasRoom, IsNext, IsFollowed, IsOverdueAt, IsTurnOf, IsWaiting, MayShare, WaitsSince, WantsCommit, waiting_for};
+ghost use Rattle.feed_screens.specs.Waiting.{HasAsked, HasRoom, IsAnotherNext, IsNext, IsFollowed, IsOverdueAt, IsTurnOf, IsWaiting, MayShare, WaitsSince, WantsCommit, waiting_for};
 
 use crate::conn::Wanted;
 use crate::screens::{Answers, Hearing, Keyed, Screens, Shown, TextId};
@@ -128,8 +128,7 @@ impl Screens {
         // nobody goes before it
         ensures turn { IsTrue result → self.now.is_waited ≡ true → IsTurnOf self.now.conns at }
         // where there is room and it may not, another one goes before it
-        ensures others { result ≡ false → HasRoom self.now
-            → (other : ℕ) × (other ≢ at) × IsNext self.now.conns other }
+        ensures others { result ≡ false → HasRoom self.now → IsAnotherNext self.now.conns at }
     {
         if !self.has_room() {
             return false;

@@ -27,7 +27,7 @@ pub returns-in-Goes-clause-next : goal.returns-in-Goes-clause-next
 returns-in-Goes-clause-next c =
     λ _. (
       c.may_take_room-has_room.result,
-      c.may_take_room-has_room.ensures.room,
+      c.may_take_room-has_room.ensures.others,
       record {
         got = c.in_ok-got.got;
         next = subst (λ h. Watched (Refills c.args.self.now.hub.broadcast c.args.node.now.shown c.may_take_room-has_room.result c.args.desk.now.time c.in_ok-got.got) (seat_at c.args.self.now.hub.seats.slab c.args.keyed.key) (seat_at h.seats.slab c.args.keyed.key)) (sym c.is_refilled.ensures.same.hub) c.in_ok-got.ensures.ok;
@@ -38,7 +38,7 @@ pub returns-in-Waits-clause-next : goal.returns-in-Waits-clause-next
 returns-in-Waits-clause-next c =
     λ _. (
       c.may_take_room-has_room.result,
-      c.may_take_room-has_room.ensures.room,
+      c.may_take_room-has_room.ensures.others,
       record {
         got = c.in_ok-got.got;
         next = subst (λ h. Watched (Refills c.args.self.now.hub.broadcast c.args.node.now.shown c.may_take_room-has_room.result c.args.desk.now.time c.in_ok-got.got) (seat_at c.args.self.now.hub.seats.slab c.args.keyed.key) (seat_at h.seats.slab c.args.keyed.key)) (sym c.wait_for_commit.ensures.same.hub) c.in_ok-got.ensures.ok;
