@@ -2,16 +2,18 @@
 use Rattle.std.specs.Prelude.{◌≡◌, ◌≢◌, ◌⊎◌, ℕ, ◌<◌, ◌≤◌, ◌+◌, ◌-◌, ◌*◌, ◌^◌, min, Bool, true, false, List, length, Option, Some, None, IfSome}
 use Rattle.std.specs.List.{list_any}
 use Rattle.slab.specs.Slab.{Slab, get}
+use Rattle.feed_hub.specs.declared.answering.Answering.{Answering}
 use Rattle.feed_hub.specs.declared.hub.Hub.{Hub}
 use Rattle.feed_hub.specs.declared.seats.Key.{Key}
 use Rattle.feed_hub.specs.declared.seats.Seat.{Seat}
 use Rattle.feed_hub.specs.Frames.{is_since}
-use Rattle.feed_hub.specs.Hub.{HoldsAt}
+use Rattle.feed_hub.specs.Hub.{HoldsAt, TellsTextAt}
 use Rattle.feed_hub.specs.Seats.{seat_at, IsAskingSeat}
 use Rattle.feed_screens.specs.declared.conn.Conn.{Conn}
 use Rattle.feed_screens.specs.declared.conn.Wait.{Wait}
 use Rattle.feed_screens.specs.declared.conn.Wanted.{Wanted}
 use Rattle.feed_screens.specs.declared.conn.Wanted.TheVariants.{Answer, Commit}
+use Rattle.feed_screens.specs.declared.screens.Keyed.{Keyed}
 use Rattle.feed_screens.specs.declared.screens.Screens.{Screens}
 use Rattle.feed_screens.specs.Held.{IsToBeRead}
 use Rattle.feed_screens.specs.Pending.{total, owed_text_at}
@@ -123,6 +125,14 @@ pub record IsNext (conns : Slab Conn) (at : ℕ) : Type 0 where
 -- another one is next
 abbrev pub IsAnotherNext : Slab Conn → ℕ → Type 0
 IsAnotherNext conns at = (other : ℕ) × (other ≢ at) × IsNext conns other
+
+-- a text has to be made for the request that these bytes end, for which there is no room, or another
+-- one is next
+unfoldable pub LacksRoom : Screens → Answering → List ℕ → Keyed → List ℕ → Type 0
+LacksRoom screens answering contest keyed piece =
+    TellsTextAt screens.hub.broadcast contest answering.mirror.node answering.framing
+    answering.opening piece (seat_at screens.hub.seats.slab keyed.key) true
+    × (HasRoom screens → IsAnotherNext screens.conns keyed.at)
 
 -- it waits for a commit that perhaps another screen has by now, and its socket may take that
 abbrev pub WasMade : Hub → Option (ℕ × ℕ) → Type 0

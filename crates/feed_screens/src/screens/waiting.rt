@@ -12,7 +12,7 @@ ghost use Rattle.feed_screens.specs.Serving.{StillServesAll, StillAnswers, Still
 ghost use Rattle.feed_screens.specs.Serving.{ServesBut, HasKey, HearsAll, OtherConns};
 ghost use Rattle.feed_screens.specs.Held.{SameMirrors};
 ghost use Rattle.feed_screens.specs.Waiting.{HasNotWaited, IsOverdue, IsSlow, HoldsUp, RefusesOne};
-ghost use Rattle.feed_screens.specs.Waiting.{HasAsked, HasRoom, IsAnotherNext, IsNext, IsFollowed, IsOverdueAt, IsTurnOf, IsWaiting, MayShare, WaitsSince, WantsCommit, waiting_for};
+ghost use Rattle.feed_screens.specs.Waiting.{HasAsked, HasRoom, IsAnotherNext, IsNext, IsFollowed, IsOverdueAt, IsTurnOf, IsWaiting, LacksRoom, MayShare, WaitsSince, WantsCommit, waiting_for};
 
 use crate::conn::Wanted;
 use crate::screens::{Answers, Hearing, Keyed, Screens, Shown, TextId};
@@ -196,6 +196,7 @@ impl Screens {
 
     /// Whether these bytes end a request for which there is no room: a text has to be made for it.
     /// Where memory runs out for that look, the hub hears them all the same, and may run out of it.
+    #[tactic(auto, unfolding(crate::specs::Waiting::LacksRoom))]
     pub(crate) fn has_no_room(
         &self,
         alloc: Global,
@@ -203,7 +204,10 @@ impl Screens {
         contest: &str,
         keyed: Keyed,
         piece: &[u8],
-    ) -> bool {
+    ) -> bool
+        ensures { IsTrue result
+            → LacksRoom self.now answering.now contest.now keyed piece.now }
+    {
         if self.may_take_room(keyed.at) {
             return false;
         }
