@@ -3,3 +3,4 @@ pub mod EndingLemmas
 pub mod OwedLemmas
 pub mod PendingLemmas
 pub mod ServingLemmas
+pub mod OfferLemmas

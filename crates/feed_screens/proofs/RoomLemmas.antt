@@ -1,14 +1,15 @@
 -- Who is refused, since it has waited for room for long enough.
-use Rattle.std.proofs.Common.{◌≡◌, ◌≢◌, refl, inl, inr, sym, ap, ◌∙◌, subst, ℕ}
-use Rattle.std.proofs.lemmas.Bool.Decides.{eqb_tells}
-use Rattle.std.specs.Prelude.{◌==◌, ◌⊎◌, true, false, Option, Some, None}
+use Rattle.std.proofs.Common.{◌≡◌, ◌≢◌, ◌<◌, ◌≤◌, ◌+◌, arith, length, refl, inl, inr, sym, ap, ◌∙◌, subst, ℕ}
+use Rattle.std.proofs.lemmas.Bool.Decides.{eqb_tells, leb_tells}
+use Rattle.std.proofs.lemmas.List.{get_or_past}
+use Rattle.std.specs.Prelude.{leb, ◌==◌, ◌⊎◌, true, false, Option, Some, None}
 use Rattle.slab.specs.Slab.{Slab, get}
 use Rattle.feed_hub.specs.declared.seats.Key.{Key}
-use Rattle.feed_hub.specs.Seats.{seat_at}
+use Rattle.feed_hub.specs.Seats.{seat_at, IsAskingSeat}
 use Rattle.feed_screens.specs.declared.conn.Conn.{Conn}
 use Rattle.feed_screens.specs.declared.screens.Screens.{Screens}
 use Rattle.feed_screens.specs.Serving.{key_of, key_at, keyless}
-use Rattle.feed_screens.specs.Waiting.{IsOverdue, HasNotWaited, RefusesAt, RefusesOne}
+use Rattle.feed_screens.specs.Waiting.{IsOverdue, IsOverdueAt, HasNotWaited, RefusesAt, RefusesOne}
 
 abbrev pub HasNoKey : Slab Conn → ℕ → Type 0
 HasNoKey conns at = (key : Key) → key_at conns at ≢ Some (Some key)
@@ -87,3 +88,42 @@ stays_waiting old new now at so not_due = by (so.each at)
 pub has_no_key : (held : Option (Option Key)) (key : Key) → keyless held ≢ Some (Some key)
 has_no_key None key is = (let x : None ≡ Some (Some key) = is in cc)
 has_no_key (Some held) key is = (let x : Some None ≡ Some (Some key) = is in cc)
+
+-- whoever is at another place stays
+pub stays_elsewhere : (before new : Screens) (at time other : ℕ) → RefusesOne before new at time → other ≢ at
+    → get new.conns other ≡ get before.conns other
+stays_elsewhere before new at time other (inl nobody) away = ap (λ (s : Screens). get s.conns other) nobody
+stays_elsewhere before new at time other (inr (_, one)) away = one.others other away
+
+-- of those up to this one nobody asks any more who has waited for so long
+pub gone_next : (before new : Screens) (at time now : ℕ) → time ≡ now → RefusesOne before new at time
+    → ((key : Key) → IsAskingSeat (seat_at new.hub.seats.slab key) → IsAskingSeat (seat_at before.hub.seats.slab key))
+    → (IsOverdueAt new at time → ⊥) → ((other : ℕ) → other < at → IsOverdueAt before other now → ⊥)
+    → (other : ℕ) → other < at + 1 → IsOverdueAt new other now → ⊥
+gone_next before new at time now same one asking here below other under is = by (eqb_tells other at)
+  where
+    by : (((other == at) ≡ true) × (other ≡ at)) ⊎ (((other == at) ≡ false) × (other ≢ at)) → ⊥
+    by (inl (_, this)) = here (subst (λ o. IsOverdueAt new o time) this (subst (IsOverdueAt new other) (sym same) is))
+    by (inr (_, away)) =
+        let kept = stays_elsewhere before new at time other one away in
+        let under_it : other < at = omega (arith, under, away) in
+        below other under_it
+        (record {
+          asks = record { key = is.asks.key; keyed = ap key_of (sym kept) ∙ is.asks.keyed; asks = asking is.asks.key is.asks.asks };
+          overdue = subst (λ c. IsOverdue c now) kept is.overdue;
+        })
+
+-- and so of all, once the last place was looked at
+pub gone_all : (old new : Screens) (end now at : ℕ) → RefusesOverdue old new now → length old.conns.slots ≤ end
+    → ((other : ℕ) → other < end → IsOverdueAt new other now → ⊥) → IsOverdueAt new at now → ⊥
+gone_all old new end now at so all below is = by (so.each at)
+  where
+    by : (get new.conns at ≡ get old.conns at) ⊎ (IsOverdue (get old.conns at) now × HasNoKey new.conns at) → ⊥
+    by (inr (_, none)) = none is.asks.key is.asks.keyed
+    by (inl same) = within (leb_tells end at)
+      where
+        within : ((leb end at ≡ true) × (end ≤ at)) ⊎ ((leb end at ≡ false) × (at < end)) → ⊥
+        within (inr (_, under)) = below at under is
+        within (inl (_, past)) =
+            let none : get old.conns at ≡ None = get_or_past old.conns.slots at None (omega (arith, all, past)) in
+            subst (λ c. IsOverdue c now) (same ∙ none) is.overdue

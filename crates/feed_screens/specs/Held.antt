@@ -1,9 +1,10 @@
 -- Requests wait until a server was heard.
-use Rattle.std.specs.Prelude.{◌≡◌, ℕ, ◌+◌, ◌-◌, ◌≤◌, ◌^◌, min, Bool, true, false, nat_le, Option, Some, None}
+use Rattle.std.specs.Prelude.{◌≡◌, ℕ, ◌+◌, ◌-◌, ◌≤◌, ◌^◌, min, Bool, true, false, nat_le, Option, Some, None, if◌then◌else◌}
 use Rattle.feed_screens.specs.declared.conn.Conn.{Conn}
 use Rattle.feed_screens.specs.declared.conn.Phase.{Phase}
 use Rattle.feed_screens.specs.declared.conn.Phase.TheVariants.{Asks, Watches, Lingers}
 use Rattle.feed_screens.specs.declared.screens.Answers.{Answers}
+use Rattle.feed_screens.specs.declared.screens.Screens.{Screens}
 
 -- with what a request is answered, which is held or not: with what shows nothing, or with what the
 -- relay shows
@@ -27,6 +28,21 @@ Waits None held hold now = ⊥
 Waits (Some conn) held hold now =
     (conn.phase ≡ Asks) × (IsAnswering held hold conn.since now → ⊥)
 
+-- There is something to be read of this connection now: an event or a full read said so, and its
+-- request is answered where it is one.
+abbrev pub IsToBeRead : Option Conn → Bool → ℕ → ℕ → Type 0
+IsToBeRead None held hold now = ⊥
+IsToBeRead (Some conn) held hold now =
+    (conn.has_input ≡ true) × (conn.phase ≡ Asks → IsAnswering held hold conn.since now)
+
+-- an event came for it: there may be more to read, or to write, or both
+abbrev pub woken : Bool → Bool → Conn → Conn
+woken is_readable is_writable conn =
+    record conn {
+      has_input = if is_readable then true else conn.has_input;
+      is_blocked = if is_writable then false else conn.is_blocked;
+    }
+
 -- the connection is at this phase
 abbrev pub IsAt : Option Conn → Phase → Type 0
 IsAt None phase = ⊥
@@ -47,3 +63,16 @@ IsPast (Some conn) now = HasLingered conn.phase now
 pub record SameMirrors (old new : Answers) : Type 0 where
   pub shown : new.shown.mirror ≡ old.shown.mirror
   pub blank : new.blank.mirror ≡ old.blank.mirror
+
+-- nothing changed but connections
+pub record SameBesideConns (old new : Screens) : Type 0 where
+  pub hub : new.hub ≡ old.hub
+  pub pending : new.pending ≡ old.pending
+  pub saying : new.saying ≡ old.saying
+  pub counts : new.counts ≡ old.counts
+  pub made : new.made ≡ old.made
+  pub held : new.held ≡ old.held
+  pub has_more : new.has_more ≡ old.has_more
+  pub is_waited : new.is_waited ≡ old.is_waited
+  pub is_waited_for : new.is_waited_for ≡ old.is_waited_for
+  pub accept_at : new.accept_at ≡ old.accept_at

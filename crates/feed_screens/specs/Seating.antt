@@ -1,5 +1,6 @@
 -- Who comes has a seat, where one is free; and who is closed where there is no place.
-use Rattle.std.specs.Prelude.{◌≡◌, ◌≢◌, ℕ, ◌<◌, ◌≤◌, ◌+◌, ◌-◌, ◌^◌, min, Option, Some, None}
+use Rattle.std.specs.Prelude.{◌≡◌, ◌≢◌, ℕ, ◌<◌, ◌≤◌, ◌+◌, ◌-◌, ◌^◌, min, false, Option, Some, None}
+use Rattle.std.specs.declared.net.socket_addr.SocketAddr.{SocketAddr}
 use Rattle.slab.specs.Slab.{Slab, get, slab_len, HasRoomFor}
 use Rattle.feed_hub.specs.declared.hub.Hub.{Hub}
 use Rattle.feed_hub.specs.declared.seats.Key.{Key}
@@ -19,6 +20,26 @@ pub record HasFreeSeat (hub : Hub) : Type 0 where
 -- requests may have to wait
 abbrev pub comes_until : Screens → ℕ → ℕ
 comes_until screens now = min (min (now + 30000) (2 ^ 64 - 1) + screens.held) (2 ^ 64 - 1)
+
+-- a connection that came just now: its request comes, and nothing was written
+abbrev pub connected : SocketAddr → ℕ → Conn
+connected peer now =
+    record {
+      key = None;
+      phase = Asks;
+      is_blocked = false;
+      has_input = false;
+      has_more = false;
+      owes = 0;
+      owed_since = 0;
+      took = 0;
+      wait = None;
+      ended = None;
+      peer = peer;
+      since = now;
+      status = 0;
+      bytes = 0;
+    }
 
 -- it has this key, and sent its end
 abbrev pub SentEndWithKey : Option Conn → Key → Type 0

@@ -1,6 +1,6 @@
 -- THE PROMISE, up to each socket: what is written to it is what the hub counts at the key of its
 -- connection, and so a prefix of what is due to the answer that one of the nodes gave.
-use Rattle.std.specs.Prelude.{◌≡◌, ℕ, zero, suc, ◌<◌, ◌≤◌, ◌+◌, ◌-◌, ◌^◌, min, List, [], ◌++◌, take, drop, Option, Some, None, Bool, true, false, Result, MatchResult, Contains, IfSome, ◌⊎◌}
+use Rattle.std.specs.Prelude.{◌≡◌, ◌≢◌, ℕ, zero, suc, ◌<◌, ◌≤◌, ◌+◌, ◌-◌, ◌^◌, min, List, [], ◌++◌, take, drop, Option, Some, None, Bool, true, false, Result, MatchResult, Contains, IfSome, ◌⊎◌}
 use Rattle.std.specs.List.{AllByRecursion}
 use Rattle.slab.specs.Slab.{Slab, get}
 use Rattle.feed_settings.specs.declared.framing.Framing.{Framing}
@@ -14,10 +14,11 @@ use Rattle.feed_hub.specs.declared.screen.Way.{Way}
 use Rattle.feed_hub.specs.declared.screen.Way.TheVariants.{CatchesUp, OnLog, Stops, Over}
 use Rattle.feed_hub.specs.declared.seats.Seat.{Seat}
 use Rattle.feed_hub.specs.declared.seats.Seat.TheVariants.{Asks, Watches}
-use Rattle.feed_hub.specs.Hub.{IsSeated, ChangesOnly}
+use Rattle.feed_hub.specs.declared.screen.Refill.{Refill}
+use Rattle.feed_hub.specs.Hub.{IsSeated, ChangesOnly, Refills}
 use Rattle.feed_hub.specs.Backlog.{Backlog}
 use Rattle.feed_hub.specs.Screen.{IsServed}
-use Rattle.feed_hub.specs.Seats.{seat_at}
+use Rattle.feed_hub.specs.Seats.{seat_at, IsOverSeat, Watched}
 use Rattle.feed_screens.specs.declared.conn.Conn.{Conn}
 use Rattle.feed_screens.specs.declared.conn.Phase.TheVariants.{Watches as Watching}
 use Rattle.feed_screens.specs.declared.screens.Answers.{Answers}
@@ -102,6 +103,14 @@ key_at conns at = key_of (get conns at)
 -- the connection at a place has this key
 abbrev pub HasKey : Slab Conn → Keyed → Type 0
 HasKey conns keyed = key_at conns keyed.at ≡ Some (Some keyed.key)
+
+-- no connection at another place has this key
+abbrev pub IsAlone : Slab Conn → Key → ℕ → Type 0
+IsAlone conns key at = (other : ℕ) → key_at conns other ≡ Some (Some key) → other ≡ at
+
+-- each connection but the one at this place stays as it is
+abbrev pub OtherConns : Slab Conn → Slab Conn → ℕ → Type 0
+OtherConns old new at = (other : ℕ) → other ≢ at → get new other ≡ get old other
 
 -- How the socket at a number stands. Where there is no connection it is closed. A connection
 -- without a key is sent no more.
@@ -250,6 +259,19 @@ abbrev pub IsWritable : Option Conn → Key → Type 0
 IsWritable None key = ⊥
 IsWritable (Some conn) key =
     (conn.key ≡ Some key) × (conn.phase ≡ Watching) × (conn.is_blocked ≡ false)
+
+-- what sits there once it has what comes next for it
+pub record GetsNext (hub : Hub) (node : NodeState) (has_room : Bool) (now : ℕ) (key : Key)
+    (seat : Option Seat) : Type 0 where
+  pub got : Refill
+  pub next : Watched (Refills hub.broadcast node has_room now got) (seat_at hub.seats.slab key) seat
+
+-- it was sent all, and what comes next for it is nothing, ever
+pub record IsAtEnd (hub : Hub) (node : NodeState) (now : ℕ) (key : Key) : Type 0 where
+  pub has_room : Bool
+  pub seat : Option Seat
+  pub next : GetsNext hub node has_room now key seat
+  pub over : IsOverSeat seat
 
 -- ---- what was said
 

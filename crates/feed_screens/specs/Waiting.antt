@@ -1,13 +1,22 @@
 -- Who waits for room, and for how long; and who takes a text so slowly that it is cut for that.
-use Rattle.std.specs.Prelude.{◌≡◌, ◌≢◌, ◌⊎◌, ℕ, ◌<◌, ◌≤◌, ◌+◌, ◌-◌, ◌*◌, ◌^◌, min, false, Option, Some, None, IfSome}
+use Rattle.std.specs.Prelude.{◌≡◌, ◌≢◌, ◌⊎◌, ℕ, ◌<◌, ◌≤◌, ◌+◌, ◌-◌, ◌*◌, ◌^◌, min, Bool, true, false, List, length, Option, Some, None, IfSome}
+use Rattle.std.specs.List.{list_any}
 use Rattle.slab.specs.Slab.{Slab, get}
+use Rattle.feed_hub.specs.declared.answering.Answering.{Answering}
+use Rattle.feed_hub.specs.declared.hub.Hub.{Hub}
 use Rattle.feed_hub.specs.declared.seats.Key.{Key}
-use Rattle.feed_hub.specs.Seats.{seat_at}
+use Rattle.feed_hub.specs.declared.seats.Seat.{Seat}
+use Rattle.feed_hub.specs.Frames.{is_since}
+use Rattle.feed_hub.specs.Hub.{HoldsAt, TellsTextAt}
+use Rattle.feed_hub.specs.Seats.{seat_at, IsAskingSeat}
 use Rattle.feed_screens.specs.declared.conn.Conn.{Conn}
 use Rattle.feed_screens.specs.declared.conn.Wait.{Wait}
-use Rattle.feed_screens.specs.declared.conn.Wanted.TheVariants.{Answer}
+use Rattle.feed_screens.specs.declared.conn.Wanted.{Wanted}
+use Rattle.feed_screens.specs.declared.conn.Wanted.TheVariants.{Answer, Commit}
+use Rattle.feed_screens.specs.declared.screens.Keyed.{Keyed}
 use Rattle.feed_screens.specs.declared.screens.Screens.{Screens}
-use Rattle.feed_screens.specs.Pending.{owed_text_at}
+use Rattle.feed_screens.specs.Held.{IsToBeRead}
+use Rattle.feed_screens.specs.Pending.{total, owed_text_at}
 use Rattle.feed_screens.specs.Serving.{key_at}
 
 -- its answer has waited for room for thirty seconds
@@ -21,10 +30,130 @@ abbrev pub IsOverdue : Option Conn → ℕ → Type 0
 IsOverdue None now = ⊥
 IsOverdue (Some conn) now = HasWaited conn.wait now
 
+-- the request of the connection at a place comes: no answer to it was begun
+pub record IsAskingAt (screens : Screens) (at : ℕ) : Type 0 where
+  pub key : Key
+  pub keyed : key_at screens.conns at ≡ Some (Some key)
+  pub asks : IsAskingSeat (seat_at screens.hub.seats.slab key)
+
+-- and it has waited for room for too long
+pub record IsOverdueAt (screens : Screens) (at now : ℕ) : Type 0 where
+  pub asks : IsAskingAt screens at
+  pub overdue : IsOverdue (get screens.conns at) now
+
 -- so it is with no connection that has this key
 abbrev pub HasNotWaited : Slab Conn → Key → ℕ → Type 0
 HasNotWaited conns key now =
     (at : ℕ) → key_at conns at ≡ Some (Some key) → ¬ (IsOverdue (get conns at) now)
+
+-- the long texts that screens have yet to take have fewer bytes together than they may: so one more
+-- may be made
+abbrev pub HasRoom : Screens → Type 0
+HasRoom screens =
+    min (total screens.pending.texts.list.items) (2 ^ 64 - 1) < screens.limits.pending
+
+-- its answer waits for room
+abbrev pub WantsAnswer : Option Wait → Type 0
+WantsAnswer None = ⊥
+WantsAnswer (Some wait) = wait.wanted ≡ Answer
+
+-- so it is with the connection
+abbrev pub HasAsked : Option Conn → Type 0
+HasAsked None = ⊥
+HasAsked (Some conn) = WantsAnswer conn.wait
+
+-- the commit that it has no room for: how many bytes it has, and how many long ones had been made
+abbrev pub commit_of : Wanted → Option (ℕ × ℕ)
+commit_of Answer = None
+commit_of (Commit length made) = Some (length, made)
+
+abbrev pub wanted_commit : Option Wait → Option (ℕ × ℕ)
+wanted_commit None = None
+wanted_commit (Some wait) = commit_of wait.wanted
+
+-- the connection waits for a commit
+abbrev pub WantsCommit : Option Conn → Type 0
+WantsCommit None = ⊥
+WantsCommit (Some conn) = wanted_commit conn.wait ≢ None
+
+-- the connection waits for room
+abbrev pub IsWaiting : Option Conn → Type 0
+IsWaiting None = ⊥
+IsWaiting (Some conn) = conn.wait ≢ None
+
+-- Of these bytes not all were taken for the request that comes there, as it ends before the last:
+-- something comes behind it. Or no request comes.
+abbrev pub IsFollowed : ℕ → List ℕ → Option Seat → Option Seat → Type 0
+IsFollowed until piece old new =
+    (taken : ℕ) × (taken < length piece) × HoldsAt until piece taken old new
+
+-- since when it waits for what it wants now: it may have waited for something before
+abbrev pub waits_since : Option Wait → ℕ → ℕ
+waits_since None now = now
+waits_since (Some wait) now = wait.since
+
+-- it waits for this from now on, or for as long as it has waited
+abbrev pub waiting_for : Wanted → ℕ → Conn → Conn
+waiting_for wanted now conn =
+    record conn {
+      wait = Some (record { since = waits_since conn.wait now; wanted = wanted });
+    }
+
+-- the connection waits for room since a time, and its socket may take something
+abbrev pub WaitsSince : Option Conn → ℕ → Type 0
+WaitsSince None since = ⊥
+WaitsSince (Some conn) since =
+    (conn.is_blocked ≡ false) × (wait : Wait) × (conn.wait ≡ Some wait) × (wait.since ≡ since)
+
+-- one was found that has waited since then, or for longer
+abbrev pub IsFoundBy : Option (ℕ × ℕ) → ℕ → Type 0
+IsFoundBy None since = ⊥
+IsFoundBy (Some found) since = found.0 ≤ since
+
+-- nobody has waited for longer than the connection at this place
+abbrev pub IsTurnOf : Slab Conn → ℕ → Type 0
+IsTurnOf conns at =
+    (other since : ℕ) → WaitsSince (get conns other) since
+    → (own : ℕ) × WaitsSince (get conns at) own × (own ≤ since)
+
+-- it waits, and is the next that is given room
+pub record IsNext (conns : Slab Conn) (at : ℕ) : Type 0 where
+  pub since : ℕ
+  pub waits : WaitsSince (get conns at) since
+  pub first : (other later : ℕ) → WaitsSince (get conns other) later → since ≤ later
+
+-- another one is next
+abbrev pub IsAnotherNext : Slab Conn → ℕ → Type 0
+IsAnotherNext conns at = (other : ℕ) × (other ≢ at) × IsNext conns other
+
+-- a text has to be made for the request that these bytes end, for which there is no room, or another
+-- one is next
+unfoldable pub LacksRoom : Screens → Answering → List ℕ → Keyed → List ℕ → Type 0
+LacksRoom screens answering contest keyed piece =
+    TellsTextAt screens.hub.broadcast contest answering.mirror.node answering.framing
+    answering.opening piece (seat_at screens.hub.seats.slab keyed.key) true
+    × (HasRoom screens → IsAnotherNext screens.conns keyed.at)
+
+-- it waits for a commit that perhaps another screen has by now, and its socket may take that
+abbrev pub WasMade : Hub → Option (ℕ × ℕ) → Type 0
+WasMade hub None = ⊥
+WasMade hub (Some (length, made)) =
+    list_any (is_since made length) hub.frames.kept.items ≡ true
+
+abbrev pub MayShare : Hub → Option Conn → Type 0
+MayShare hub None = ⊥
+MayShare hub (Some conn) = (conn.is_blocked ≡ false) × WasMade hub (wanted_commit conn.wait)
+
+-- there is more to write to it, for which no event comes
+abbrev pub HasMoreToWrite : Option Conn → Type 0
+HasMoreToWrite None = ⊥
+HasMoreToWrite (Some conn) = conn.has_more ≡ true
+
+-- the connection at a place is to be served now, though no event came for it
+abbrev pub HasMoreAt : Screens → Bool → ℕ → ℕ → ℕ → Type 0
+HasMoreAt screens held hold now at =
+    IsToBeRead (get screens.conns at) held hold now
+    ⊎ (MayShare screens.hub (get screens.conns at) ⊎ HasMoreToWrite (get screens.conns at))
 
 -- At the rate at which it took its text so far, it would need more than a minute for all of it. Of
 -- the first two seconds nothing is said.

@@ -1,9 +1,9 @@
 //! One screen's connection, as the turn keeps it beside its socket.
 
-ghost use Rattle.std.specs.Prelude.{◌≡◌, ◌⊎◌, ◌↔◌, None, Some, IsTrue, IfSome};
-ghost use Rattle.feed_screens.specs.Held.{HasLingered};
-ghost use Rattle.feed_screens.specs.Seating.{SentEndWithKey, Lingers, lingers_from, lingers_less, HasReadAll};
-ghost use Rattle.feed_screens.specs.Waiting.{HasWaited, TakesSlowly};
+ghost use Rattle.std.specs.Prelude.{◌≡◌, ◌⊎◌, ◌↔◌, ◌+◌, ◌-◌, ◌^◌, ℕ, min, None, Some, IsTrue, IfSome};
+ghost use Rattle.feed_screens.specs.Held.{HasLingered, woken};
+ghost use Rattle.feed_screens.specs.Seating.{connected, SentEndWithKey, Lingers, lingers_from, lingers_less, HasReadAll};
+ghost use Rattle.feed_screens.specs.Waiting.{HasWaited, TakesSlowly, WantsAnswer, WaitsSince, IsFoundBy, waiting_for, wanted_commit};
 
 use crate::times::{LINGER, PATIENCE, ROOM_TIME, SHARE_TIME};
 use feed_hub::Key;
@@ -77,7 +77,7 @@ pub(crate) struct Conn {
 impl Conn {
     /// A connection that came just now.
     pub(crate) fn new(peer: SocketAddr, now: u64) -> Conn
-        ensures { result.key ≡ None }
+        ensures { result ≡ connected peer now }
     {
         Conn {
             key: None,
@@ -99,7 +99,7 @@ impl Conn {
 
     /// Its socket became ready.
     pub(crate) fn wake(&mut self, is_readable: bool, is_writable: bool)
-        ensures { self.new.key ≡ self.old.key }
+        ensures { self.new ≡ woken is_readable is_writable self.old }
     {
         if is_readable {
             self.has_input = true;
@@ -121,7 +121,7 @@ impl Conn {
 
     /// It has yet to take a text of so many bytes, from now on.
     pub(crate) fn owe(&mut self, length: usize, now: u64)
-        ensures { self.new.key ≡ self.old.key }
+        ensures { self.new ≡ record self.old { owes = length; owed_since = now; took = 0 } }
     {
         self.owes = length;
         self.owed_since = now;
@@ -130,14 +130,17 @@ impl Conn {
 
     /// It took all of its text.
     pub(crate) fn pay(&mut self)
-        ensures { self.new.key ≡ self.old.key }
+        ensures { self.new ≡ record self.old { owes = 0 } }
     {
         self.owes = 0;
     }
 
     /// It took so many bytes.
     pub(crate) fn take(&mut self, count: usize)
-        ensures { self.new.key ≡ self.old.key }
+        ensures { self.new ≡ record self.old {
+          bytes = min (self.old.bytes + count) u64.MAX;
+          took = min (self.old.took + count) u64.MAX;
+        } }
     {
         self.bytes = self.bytes.saturating_add(count as u64);
         self.took = self.took.saturating_add(count as u64);
@@ -145,7 +148,7 @@ impl Conn {
 
     /// It waits for this from now on, or for as long as it has waited.
     pub(crate) fn wait_for(&mut self, wanted: Wanted, now: u64)
-        ensures { self.new.key ≡ self.old.key }
+        ensures { self.new ≡ waiting_for wanted now self.old }
     {
         let since = match self.wait {
             Some(wait) => wait.since,
@@ -155,7 +158,9 @@ impl Conn {
     }
 
     /// Whether its request waits for room.
-    pub(crate) fn wants_answer(&self) -> bool {
+    pub(crate) fn wants_answer(&self) -> bool
+        ensures { IsTrue result ↔ WantsAnswer self.now.wait }
+    {
         matches!(
             self.wait,
             Some(Wait {
@@ -166,7 +171,9 @@ impl Conn {
     }
 
     /// For a commit of how many bytes it waits, and how many had been made until then.
-    pub(crate) fn wants_commit(&self) -> Option<(usize, u64)> {
+    pub(crate) fn wants_commit(&self) -> Option<(usize, u64)>
+        ensures { result ≡ wanted_commit self.now.wait }
+    {
         match self.wait?.wanted {
             Wanted::Commit { length, made } => Some((length, made)),
             Wanted::Answer => None,
@@ -175,7 +182,7 @@ impl Conn {
 
     /// Whether its request has waited for room for long enough.
     pub(crate) fn is_overdue(&self, now: u64) -> bool
-        ensures { IsTrue result → HasWaited self.now.wait now }
+        ensures { IsTrue result ↔ HasWaited self.now.wait now }
     {
         match self.wait {
             Some(wait) => {
@@ -191,7 +198,12 @@ impl Conn {
         &self,
         other: Option<(u64, usize)>,
         at: usize,
-    ) -> Option<(u64, usize)> {
+    ) -> Option<(u64, usize)>
+        ensures one { (result ≡ other)
+            ⊎ IfSome result (λ found. (found.1 ≡ at) × WaitsSince (Some self.now) found.0) }
+        ensures here { (since : ℕ) → WaitsSince (Some self.now) since → IsFoundBy result since }
+        ensures there { (since : ℕ) → IsFoundBy other since → IsFoundBy result since }
+    {
         let Some(wait) = self.wait else {
             return other;
         };

@@ -6,7 +6,7 @@ ghost use Rattle.feed_answer.specs.Answered.{AnswerParts};
 ghost use Rattle.feed_hub.specs.Hub.{IsSeated, ChangesOnly, prefix_at};
 ghost use Rattle.feed_hub.specs.Seats.{seat_at, Watched};
 ghost use Rattle.feed_hub.specs.Steps.{taken};
-ghost use Rattle.feed_device.specs.Calls.{CalledOnce};
+ghost use Rattle.feed_device.specs.Calls.{CalledOnce, NotCalled, OthersNotCalled};
 ghost use Rattle.feed_device.specs.Sockets.{IsWrite, OtherSockets};
 
 use feed_device::{Sockets, Stop};
@@ -33,6 +33,9 @@ pub(crate) fn hand<S: Sockets>(
     // it is offered just once
     ensures offers { CalledOnce (S.offered sockets.old at) (S.offered sockets.new at) }
 
+    // and no other one
+    ensures unoffered { OthersNotCalled (S.offered sockets.old) (S.offered sockets.new) at }
+
     // and nothing else changes
     ensures exact { IfOk result (λ count. Watched (λ s t. t ≡ taken count now s)
         (seat_at hub.old.seats.slab key) (seat_at hub.new.seats.slab key)) }
@@ -40,6 +43,7 @@ pub(crate) fn hand<S: Sockets>(
     ensures rest { IfOk result (λ _. ChangesOnly hub.old hub.new key) }
     ensures err { OnErr result (hub.new ≡ hub.old) }
     ensures asks { S.asked sockets.new ≡ S.asked sockets.old }
+    ensures tries { NotCalled (S.tried sockets.old) (S.tried sockets.new) }
 {
     let count = sockets.write(at, hub.prefix(key))?;
     hub.sent(key, count, now);

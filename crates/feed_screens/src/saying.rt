@@ -1,11 +1,13 @@
 //! What the node has more is said to all screens.
 
-ghost use Rattle.std.specs.Prelude.{◌≡◌, false, ◌≢◌, ◌↔◌, ◌<◌, ◌≤◌, ◌-◌, ◌^◌, min, None, IfSome, IsTrue, true, if◌then◌else◌};
-ghost use Rattle.slab.specs.Slab.{slab_len};
+ghost use Rattle.std.specs.Prelude.{◌≡◌, ℕ, [], false, ◌≢◌, ◌↔◌, ◌<◌, ◌≤◌, ◌-◌, ◌^◌, min, None, IfSome, IsTrue, true, if◌then◌else◌};
+ghost use Rattle.slab.specs.Slab.{get, slab_len};
 ghost use Rattle.feed_node.specs.States.{published_token};
+ghost use Rattle.feed_hub.specs.Hub.{prefix_at};
 ghost use Rattle.feed_hub.specs.Seats.{KeepsThose, IsOnTime};
+ghost use Rattle.feed_device.specs.Calls.{CalledOnce, NotCalled};
 ghost use Rattle.feed_screens.specs.Serving.{StillServesFrom, StillServes, StillStand, SameSeating};
-ghost use Rattle.feed_screens.specs.Serving.{AllEnd, SaysAll, WaitsBriefly, idles_at};
+ghost use Rattle.feed_screens.specs.Serving.{AllEnd, IsAlone, IsWritable, SaysAll, WaitsBriefly, idles_at};
 ghost use Rattle.feed_screens.specs.Waiting.{SameToDo, AreReady, MaySay};
 ghost use Rattle.feed_screens.specs.Counting.{none_counted, IsReportOf};
 
@@ -13,7 +15,7 @@ use crate::counts::Counts;
 use crate::screens::Screens;
 use crate::times::{MEMORY_PAUSE, SAY_PAUSE, STALL};
 use feed_device::{Desk, Report, Sockets};
-use feed_hub::Said;
+use feed_hub::{Key, Said};
 use feed_node::{Node, Pulled};
 
 /// What was said, and what is still to be done for it.
@@ -309,7 +311,13 @@ impl Screens {
     pub fn drain_due<S: Sockets>(&mut self, desk: &mut Desk, sockets: &mut S, node: &Node)
         ensures serving { StillServesFrom node.now.shown self.old self.new
             (S.socket sockets.old) (S.socket sockets.new) }
+        // then what is pending at each place that may be written to is offered, once
+        ensures offers { self.old.saying.is_due ≡ true
+            → (at : ℕ) (key : Key) → IsWritable (get self.old.conns at) key
+            → prefix_at self.old.hub key ≢ [] → IsAlone self.old.conns key at
+            → CalledOnce (S.offered sockets.old at) (S.offered sockets.new at) }
         ensures asks { S.asked sockets.new ≡ S.asked sockets.old }
+        ensures tries { NotCalled (S.tried sockets.old) (S.tried sockets.new) }
     {
         if !self.saying.is_due {
             return;

@@ -1,6 +1,6 @@
 //! The screens: each has a socket, a connection at the same place, and a seat in the hub.
 
-ghost use Rattle.std.specs.Prelude.{◌≡◌, ◌==◌, ◌↔◌, true, ◌≢◌, ◌+◌, ◌-◌, ℕ, List, None, Some, min, false, IsTrue};
+ghost use Rattle.std.specs.Prelude.{◌≡◌, ◌⊎◌, ◌==◌, ◌↔◌, true, ◌≢◌, ◌+◌, ◌-◌, ℕ, List, None, Some, min, false, IsTrue};
 ghost use Rattle.slab.specs.Slab.{get, slab_len};
 ghost use Rattle.feed_node.specs.States.{NodeState};
 ghost use Rattle.feed_hub.specs.Seats.{seat_at};
@@ -197,6 +197,7 @@ impl Screens {
         ensures closed { IsSocket (S.socket sockets.new at) closed }
         ensures offers { NotCalled (S.offered sockets.old) (S.offered sockets.new) }
         ensures asks { S.asked sockets.new ≡ S.asked sockets.old }
+        ensures tries { NotCalled (S.tried sockets.old) (S.tried sockets.new) }
         // its seat is free, and the others stay
         ensures seat { (key : Key) → key_at self.old.conns at ≡ Some (Some key)
             → seat_at self.new.hub.seats.slab key ≡ None }
@@ -207,6 +208,7 @@ impl Screens {
         ensures owed { (other : ℕ) → other ≢ at
             → owed_text_at self.new.pending.places.items other
             ≡ owed_text_at self.old.pending.places.items other }
+        ensures log { self.new.hub.broadcast ≡ self.old.hub.broadcast }
         ensures time { desk.new.time ≡ desk.old.time }
     {
         sockets.close(at);
@@ -267,11 +269,19 @@ impl Screens {
         ensures serving { StillServesAll self.old self.new
             (S.socket sockets.old) (S.socket sockets.new) }
         ensures asks { S.asked sockets.new ≡ S.asked sockets.old }
+        ensures tries { NotCalled (S.tried sockets.old) (S.tried sockets.new) }
         // whom the hub didn't cut stays
         ensures stays { (at : ℕ) → ¬ (HasNoSeat self.old.hub (get self.old.conns at))
             → get self.new.conns at ≡ get self.old.conns at }
         // and of those whom it cut nobody
         ensures goes { (at : ℕ) → ¬ (HasNoSeat self.new.hub (get self.new.conns at)) }
+        // who stays has its seat, and nothing is written
+        ensures places { (at : ℕ) → (get self.new.conns at ≡ get self.old.conns at)
+            ⊎ (get self.new.conns at ≡ None) }
+        ensures seats { (key : Key)
+            → seat_at self.new.hub.seats.slab key ≡ seat_at self.old.hub.seats.slab key }
+        ensures log { self.new.hub.broadcast ≡ self.old.hub.broadcast }
+        ensures offers { NotCalled (S.offered sockets.old) (S.offered sockets.new) }
         ensures time { desk.new.time ≡ desk.old.time }
     {
         for at in 0..self.conns.capacity() {
@@ -301,6 +311,7 @@ impl Screens {
         // and of those who have nobody
         ensures goes { (at : ℕ) → ¬ (IsPast (get self.new.conns at) desk.old.time) }
         ensures asks { S.asked sockets.new ≡ S.asked sockets.old }
+        ensures tries { NotCalled (S.tried sockets.old) (S.tried sockets.new) }
     {
         for at in 0..self.conns.capacity() {
             if self.is_past(at, desk.time) {

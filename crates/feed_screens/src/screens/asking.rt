@@ -1,14 +1,16 @@
 //! What they ask: requests are read, heard and answered.
 
-ghost use Rattle.std.specs.Prelude.{◌≡◌, ◌≤◌, ◌-◌, ℕ, List, None, Some, Ok, Contains, length, false, IfOk, IfSome};
+ghost use Rattle.std.specs.Prelude.{◌≡◌, ◌≢◌, ◌↔◌, ◌≤◌, ◌-◌, ℕ, List, None, Some, Ok, Contains, length, option_map, false, IfOk, IfSome, IsTrue};
 ghost use Rattle.slab.specs.Slab.{get};
 ghost use Rattle.feed_node.specs.States.{NodeState};
 ghost use Rattle.feed_hub.specs.Seats.{seat_at, IsAskingSeat};
+ghost use Rattle.feed_device.specs.Calls.{CalledOnce, NotCalled, OthersNotCalled};
 ghost use Rattle.feed_device.specs.Sockets.{AllSockets};
 ghost use Rattle.feed_screens.specs.Serving.{ServesScreens, StillServing, StillServesAll, StillAnswers};
 ghost use Rattle.feed_screens.specs.Serving.{ServesBut, HasKey, HearsSome, HearsAll, SameSeating, SameKeys, key_at};
 ghost use Rattle.feed_screens.specs.declared.conn.Phase.TheVariants.{Watches};
-ghost use Rattle.feed_screens.specs.Held.{answerer, IsAt, SameMirrors, Waits};
+ghost use Rattle.feed_screens.specs.Held.{answerer, woken, IsAt, IsToBeRead, SameMirrors, SameBesideConns, Waits};
+ghost use Rattle.feed_screens.specs.Waiting.{HasMoreAt};
 
 use crate::conn::Phase;
 use crate::screens::{Answers, Hearing, Keyed, PIECE, Screens, Shown, TextId};
@@ -19,7 +21,14 @@ use std::alloc::AllocError;
 impl Screens {
     /// An event came for the connection at a place.
     pub fn wake(&mut self, at: usize, is_readable: bool, is_writable: bool)
-        ensures { SameSeating self.old self.new }
+        ensures same { SameSeating self.old self.new }
+        // where there may be more to read or to write is marked
+        ensures wakes { get self.new.conns at
+            ≡ option_map (woken is_readable is_writable) (get self.old.conns at) }
+        // and nothing else changes
+        ensures others { (other : ℕ) → other ≢ at
+            → get self.new.conns other ≡ get self.old.conns other }
+        ensures rest { SameBesideConns self.old self.new }
     {
         if let Some(conn) = self.conns.get_mut(at) {
             conn.wake(is_readable, is_writable);
@@ -42,6 +51,10 @@ impl Screens {
             → sockets.new ≡ sockets.old }
         ensures mirrors { SameMirrors answers.old answers.new }
         ensures asks { S.asked sockets.new ≡ S.asked sockets.old }
+        // where there is something to be read, a read is tried, once, and nowhere else
+        ensures tries { IsToBeRead (get self.old.conns at) shown.now.is_held shown.now.hold
+            desk.old.time → CalledOnce (S.tried sockets.old at) (S.tried sockets.new at) }
+        ensures untried { OthersNotCalled (S.tried sockets.old) (S.tried sockets.new) at }
     {
         self.read(desk, sockets, answers, shown, at);
         self.drain(desk, sockets, answers.shown.node(), at);
@@ -52,8 +65,10 @@ impl Screens {
 
     /// Whether there may be something to read at a place that is to be read now.
     fn may_read(&self, shown: &Shown<'_>, at: usize, now: u64) -> bool
-        ensures { Waits (get self.now.conns at) shown.now.is_held shown.now.hold now
+        ensures waits { Waits (get self.now.conns at) shown.now.is_held shown.now.hold now
             → result ≡ false }
+        ensures exact { IsTrue result
+            ↔ IsToBeRead (get self.now.conns at) shown.now.is_held shown.now.hold now }
     {
         let Some(conn) = self.conns.get(at) else {
             return false;
@@ -65,7 +80,9 @@ impl Screens {
     }
 
     /// Whether the connection at a place has more to read or to write.
-    fn has_more_at(&self, shown: &Shown<'_>, at: usize, now: u64) -> bool {
+    fn has_more_at(&self, shown: &Shown<'_>, at: usize, now: u64) -> bool
+        ensures { IsTrue result ↔ HasMoreAt self.now shown.now.is_held shown.now.hold now at }
+    {
         self.may_read(shown, at, now)
             || self.may_share(at)
             || self.conns.get(at).is_some_and(|conn| conn.has_more)
@@ -90,6 +107,14 @@ impl Screens {
             → (self.new ≡ self.old) × (sockets.new ≡ sockets.old) × (answers.new ≡ answers.old) }
         ensures mirrors { SameMirrors answers.old answers.new }
         ensures asks { S.asked sockets.new ≡ S.asked sockets.old }
+        // where there is something to be read, a read is tried, once, and nowhere else
+        ensures tries { IsToBeRead (get self.old.conns at) shown.now.is_held shown.now.hold
+            desk.old.time → CalledOnce (S.tried sockets.old at) (S.tried sockets.new at) }
+        ensures untried { OthersNotCalled (S.tried sockets.old) (S.tried sockets.new) at }
+        // where there is nothing, nothing is done
+        ensures nothing { ¬ (IsToBeRead (get self.old.conns at) shown.now.is_held shown.now.hold
+            desk.old.time)
+            → (self.new ≡ self.old) × (sockets.new ≡ sockets.old) × (answers.new ≡ answers.old) }
     {
         if !self.may_read(shown, at, desk.time) {
             return;
@@ -120,6 +145,7 @@ impl Screens {
         ensures serving { StillServesAll self.old self.new
             (S.socket sockets.old) (S.socket sockets.new) }
         ensures asks { S.asked sockets.new ≡ S.asked sockets.old }
+        ensures tries { NotCalled (S.tried sockets.old) (S.tried sockets.new) }
         // who is sent something is sent all of it
         ensures stays { IsAt (get self.old.conns at) Watches
             → key_at self.new.conns at ≡ key_at self.old.conns at }
@@ -196,6 +222,7 @@ impl Screens {
         ensures goes { heard ≡ Ok Hearing.Goes
             → (self.new ≡ self.old) × (sockets.new ≡ sockets.old) }
         ensures asks { S.asked sockets.new ≡ S.asked sockets.old }
+        ensures tries { NotCalled (S.tried sockets.old) (S.tried sockets.new) }
     {
         match heard {
             Ok(Hearing::Goes) => {}
@@ -367,6 +394,10 @@ impl Screens {
             self.new (S.socket sockets.old) (S.socket sockets.new) }
         ensures mirrors { SameMirrors answers.old answers.new }
         ensures asks { S.asked sockets.new ≡ S.asked sockets.old }
+        // where there is something to be read, a read is tried, once, and nowhere else
+        ensures tries { IsToBeRead (get self.old.conns at) shown.now.is_held shown.now.hold
+            desk.old.time → CalledOnce (S.tried sockets.old at) (S.tried sockets.new at) }
+        ensures untried { OthersNotCalled (S.tried sockets.old) (S.tried sockets.new) at }
     {
         if self.has_more_at(shown, at, desk.time) {
             self.serve(desk, sockets, answers, shown, at);

@@ -4,12 +4,12 @@ ghost use Rattle.std.specs.Prelude.{◌≡◌, ◌≢◌, ◌<◌, ◌≤◌, �
 ghost use Rattle.slab.specs.Slab.{get};
 ghost use Rattle.feed_node.specs.States.{NodeState};
 ghost use Rattle.feed_hub.specs.Hub.{IsNew};
-ghost use Rattle.feed_hub.specs.Seats.{seat_at};
-ghost use Rattle.feed_device.specs.Calls.{CalledOnce, CalledAtLeastOnce};
+ghost use Rattle.feed_hub.specs.Seats.{seat_at, IsAskingSeat};
+ghost use Rattle.feed_device.specs.Calls.{CalledOnce, CalledAtLeastOnce, NotCalled};
 ghost use Rattle.feed_device.specs.Sockets.{opened, former_of, IsSocket, OtherSockets};
 ghost use Rattle.feed_screens.specs.Serving.{StillServesAll, StillServingWith, StillStand, SameSeating, IsSent};
 ghost use Rattle.feed_screens.specs.Serving.{IsGreeted, HasNoSeat, key_at};
-ghost use Rattle.feed_screens.specs.Waiting.{IsSlow, HoldsUp, RefusesAt};
+ghost use Rattle.feed_screens.specs.Waiting.{IsAskingAt, IsSlow, HoldsUp, RefusesAt};
 ghost use Rattle.feed_screens.specs.Seating.{comes_until, HasFreeSeat, HasNewKey, HasSentEnd, IsLingering};
 
 use crate::conn::{Conn, Phase};
@@ -84,6 +84,7 @@ impl Screens {
         ensures serving { StillServesAll self.old self.new
             (S.socket sockets.old) (S.socket sockets.new) }
         ensures asks { S.asked sockets.new ≡ S.asked sockets.old }
+        ensures tries { NotCalled (S.tried sockets.old) (S.tried sockets.new) }
         // whoever has a seat, and does not linger, stays
         ensures stays { (at : ℕ) → ¬ (HasNoSeat self.old.hub (get self.old.conns at))
             → ¬ (IsLingering (get self.old.conns at))
@@ -191,6 +192,7 @@ impl Screens {
         peer: SocketAddr,
     ) -> Conn
         ensures asks { S.asked sockets.new ≡ S.asked sockets.old }
+        ensures tries { NotCalled (S.tried sockets.old) (S.tried sockets.new) }
         ensures greeted { (nodes : List NodeState) (contest : List ℕ)
             → IsSocket (S.socket sockets.old at) (opened [] [])
             → IsGreeted nodes contest self.old.hub self.new.hub result.key
@@ -224,6 +226,7 @@ impl Screens {
     /// One more than there may be is answered so.
     fn refuse<S: Sockets>(&mut self, desk: &mut Desk, sockets: &mut S, at: usize)
         ensures asks { S.asked sockets.new ≡ S.asked sockets.old }
+        ensures tries { NotCalled (S.tried sockets.old) (S.tried sockets.new) }
         ensures sent { (nodes : List NodeState) (contest came : List ℕ)
             → IsSocket (S.socket sockets.old at) (opened came [])
             → IsSent nodes contest (S.socket sockets.new at) }
@@ -249,6 +252,7 @@ impl Screens {
             → StillServingWith nodes contest at unheard self.old self.new
             (S.socket sockets.old) (S.socket sockets.new) }
         ensures asks { S.asked sockets.new ≡ S.asked sockets.old }
+        ensures tries { NotCalled (S.tried sockets.old) (S.tried sockets.new) }
     {
         self.refuse_at(desk, sockets, at);
         self.cut_slow(desk, sockets);
@@ -261,8 +265,13 @@ impl Screens {
             (S.socket sockets.old) (S.socket sockets.new) }
         // nobody else is
         ensures refuses { RefusesAt self.old self.new at }
+        // its request comes no more, and no other one begins
+        ensures goes { ¬ (IsAskingAt self.new at) }
+        ensures asking { (key : Key) → IsAskingSeat (seat_at self.new.hub.seats.slab key)
+            → IsAskingSeat (seat_at self.old.hub.seats.slab key) }
         ensures time { desk.new.time ≡ desk.old.time }
         ensures asks { S.asked sockets.new ≡ S.asked sockets.old }
+        ensures tries { NotCalled (S.tried sockets.old) (S.tried sockets.new) }
     {
         let Some(key) = self.asking(at) else {
             return;
@@ -283,6 +292,7 @@ impl Screens {
         ensures goes { (at : ℕ) → ¬ (HoldsUp self.new at desk.old.time) }
         ensures time { desk.new.time ≡ desk.old.time }
         ensures asks { S.asked sockets.new ≡ S.asked sockets.old }
+        ensures tries { NotCalled (S.tried sockets.old) (S.tried sockets.new) }
     {
         for at in 0..self.conns.capacity() {
             if self.is_slow(at, desk.time) {

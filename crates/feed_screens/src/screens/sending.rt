@@ -1,15 +1,17 @@
 //! What screens are sent: each is written to once in a turn.
 
-ghost use Rattle.std.specs.Prelude.{◌≡◌, ◌≢◌, [], ℕ, List, None, Some, Contains, IsTrue, IfSome};
+ghost use Rattle.std.specs.Prelude.{◌≡◌, ◌≢◌, [], ℕ, Bool, false, List, None, Some, Contains, IsTrue, IfSome, is_err};
 ghost use Rattle.feed_node.specs.States.{NodeState};
 ghost use Rattle.feed_hub.specs.Hub.{prefix_at};
-ghost use Rattle.feed_device.specs.Calls.{CalledOnce, NotCalled};
+ghost use Rattle.feed_hub.specs.Seats.{seat_at};
+ghost use Rattle.feed_device.specs.Calls.{CalledOnce, NotCalled, OthersNotCalled};
 ghost use Rattle.slab.specs.Slab.{get};
 ghost use Rattle.feed_screens.specs.declared.conn.Phase.TheVariants.{Asks};
 ghost use Rattle.feed_screens.specs.Held.{IsAt};
 ghost use Rattle.feed_screens.specs.Seating.{lingers_from};
 ghost use Rattle.feed_screens.specs.Serving.{StillServing, StillServesFrom, StillServes, SameSeating};
-ghost use Rattle.feed_screens.specs.Serving.{HasKey, SameKeys, LeavesSeat, IsWritable, key_at, keyless};
+ghost use Rattle.feed_screens.specs.Waiting.{HasRoom, IsAnotherNext};
+ghost use Rattle.feed_screens.specs.Serving.{GetsNext, HasKey, IsAlone, IsAtEnd, OtherConns, SameKeys, LeavesSeat, IsWritable, key_at, keyless};
 
 use crate::conn::{Phase, Wanted};
 use crate::hand::hand;
@@ -37,6 +39,7 @@ impl Screens {
     fn writable(&mut self, at: usize) -> Option<Key>
         ensures key { IfSome result (λ key. key_at self.old.conns at ≡ Some (Some key)) }
         ensures same { SameSeating self.old self.new }
+        ensures places { OtherConns self.old.conns self.new.conns at }
         ensures asks { IsAt (get self.old.conns at) Asks → result ≡ None }
         ensures some { (key : Key) → IsWritable (get self.old.conns at) key → result ≡ Some key }
     {
@@ -64,6 +67,12 @@ impl Screens {
             → prefix_at self.old.hub key ≢ []
             → CalledOnce (S.offered sockets.old at) (S.offered sockets.new at) }
         ensures asked { S.asked sockets.new ≡ S.asked sockets.old }
+        ensures places { OtherConns self.old.conns self.new.conns at }
+        ensures seats { (key : Key) → key_at self.old.conns at ≢ Some (Some key)
+            → seat_at self.new.hub.seats.slab key ≡ seat_at self.old.hub.seats.slab key }
+        ensures log { self.new.hub.broadcast ≡ self.old.hub.broadcast }
+        ensures rest { OthersNotCalled (S.offered sockets.old) (S.offered sockets.new) at }
+        ensures tries { NotCalled (S.tried sockets.old) (S.tried sockets.new) }
     {
         let Some(key) = self.writable(at) else {
             return;
@@ -83,6 +92,12 @@ impl Screens {
         ensures offers { CalledOnce (S.offered sockets.old keyed.at)
             (S.offered sockets.new keyed.at) }
         ensures asks { S.asked sockets.new ≡ S.asked sockets.old }
+        ensures places { OtherConns self.old.conns self.new.conns keyed.at }
+        ensures seats { HasKey self.old.conns keyed → (key : Key) → key ≢ keyed.key
+            → seat_at self.new.hub.seats.slab key ≡ seat_at self.old.hub.seats.slab key }
+        ensures log { self.new.hub.broadcast ≡ self.old.hub.broadcast }
+        ensures rest { OthersNotCalled (S.offered sockets.old) (S.offered sockets.new) keyed.at }
+        ensures tries { NotCalled (S.tried sockets.old) (S.tried sockets.new) }
     {
         match self.write_once(sockets, keyed, desk.time) {
             Ok(true) => {
@@ -95,7 +110,8 @@ impl Screens {
     }
 
     pub(crate) fn has_more_to_write(&mut self, at: usize, has_more: bool)
-        ensures { SameSeating self.old self.new }
+        ensures same { SameSeating self.old self.new }
+        ensures places { OtherConns self.old.conns self.new.conns at }
     {
         if let Some(conn) = self.conns.get_mut(at) {
             conn.has_more = conn.has_more || has_more;
@@ -123,8 +139,17 @@ impl Screens {
         ensures stays { IsTrue result
             → key_at self.new.conns keyed.at ≡ key_at self.old.conns keyed.at }
         ensures has { prefix_at self.old.hub keyed.key ≢ [] → IsTrue result }
+        // only who was sent all, and the end of it, is shut
+        ensures shuts { HasKey self.old.conns keyed
+            → key_at self.new.conns keyed.at ≡ Some None
+            → IsAtEnd self.old.hub node.now.shown desk.old.time keyed.key }
         ensures offers { NotCalled (S.offered sockets.old) (S.offered sockets.new) }
         ensures asks { S.asked sockets.new ≡ S.asked sockets.old }
+        ensures places { OtherConns self.old.conns self.new.conns keyed.at }
+        ensures seats { HasKey self.old.conns keyed → (key : Key) → key ≢ keyed.key
+            → seat_at self.new.hub.seats.slab key ≡ seat_at self.old.hub.seats.slab key }
+        ensures log { self.new.hub.broadcast ≡ self.old.hub.broadcast }
+        ensures tries { NotCalled (S.tried sockets.old) (S.tried sockets.new) }
     {
         if !self.hub.prefix(keyed.key).is_empty() {
             return true;
@@ -154,6 +179,15 @@ impl Screens {
     fn refill(&mut self, desk: &Desk, node: &Node, keyed: Keyed) -> Result<(), AllocError>
         ensures serving { StillServes node.now.shown self.old self.new }
         ensures keys { SameKeys self.old.conns self.new.conns }
+        ensures places { OtherConns self.old.conns self.new.conns keyed.at }
+        ensures seats { (key : Key) → key ≢ keyed.key
+            → seat_at self.new.hub.seats.slab key ≡ seat_at self.old.hub.seats.slab key }
+        ensures log { self.new.hub.broadcast ≡ self.old.hub.broadcast }
+        // it has what comes next; or it waits, where there is no room or another one is next
+        ensures next { is_err result ≡ false → (has_room : Bool)
+            × (has_room ≡ false → HasRoom self.old → IsAnotherNext self.old.conns keyed.at)
+            × GetsNext self.old.hub node.now.shown has_room desk.now.time keyed.key
+            (seat_at self.new.hub.seats.slab keyed.key) }
     {
         let has_room = self.may_take_room(keyed.at);
         let got = self
@@ -170,7 +204,8 @@ impl Screens {
 
     /// The screen at a place has what came next: a text with a number counts as pending.
     fn is_refilled(&mut self, keyed: Keyed, number: Option<u64>, now: u64) -> Result<(), AllocError>
-        ensures { SameSeating self.old self.new }
+        ensures same { SameSeating self.old self.new }
+        ensures places { OtherConns self.old.conns self.new.conns keyed.at }
     {
         let length = self.hub.prefix(keyed.key).len();
         self.made = self.made.saturating_add(length);
@@ -184,7 +219,8 @@ impl Screens {
     /// The screen at a place waits for a commit of so many bytes, which were made in vain; unless
     /// it follows the log by now.
     fn wait_for_commit(&mut self, keyed: Keyed, length: usize, now: u64)
-        ensures { SameSeating self.old self.new }
+        ensures same { SameSeating self.old self.new }
+        ensures places { OtherConns self.old.conns self.new.conns keyed.at }
     {
         self.made = self.made.saturating_add(length);
         if !self.hub.catches_up(keyed.key) {
@@ -203,6 +239,11 @@ impl Screens {
             (S.socket sockets.old) (S.socket sockets.new) }
         ensures offers { NotCalled (S.offered sockets.old) (S.offered sockets.new) }
         ensures asks { S.asked sockets.new ≡ S.asked sockets.old }
+        ensures places { OtherConns self.old.conns self.new.conns keyed.at }
+        ensures seats { (key : Key) → key ≢ keyed.key
+            → seat_at self.new.hub.seats.slab key ≡ seat_at self.old.hub.seats.slab key }
+        ensures log { self.new.hub.broadcast ≡ self.old.hub.broadcast }
+        ensures tries { NotCalled (S.tried sockets.old) (S.tried sockets.new) }
         ensures stays { HasKey self.old.conns keyed → key_at self.new.conns keyed.at ≡ Some None }
         ensures lingers { IfSome (get self.new.conns keyed.at)
             (λ conn. conn.phase ≡ lingers_from now) }
@@ -242,6 +283,12 @@ impl Screens {
         ensures offers { CalledOnce (S.offered sockets.old keyed.at)
             (S.offered sockets.new keyed.at) }
         ensures asks { S.asked sockets.new ≡ S.asked sockets.old }
+        ensures places { OtherConns self.old.conns self.new.conns keyed.at }
+        ensures seats { (key : Key) → key ≢ keyed.key
+            → seat_at self.new.hub.seats.slab key ≡ seat_at self.old.hub.seats.slab key }
+        ensures log { self.new.hub.broadcast ≡ self.old.hub.broadcast }
+        ensures rest { OthersNotCalled (S.offered sockets.old) (S.offered sockets.new) keyed.at }
+        ensures tries { NotCalled (S.tried sockets.old) (S.tried sockets.new) }
     {
         let length = self.hub.prefix(keyed.key).len();
         let count = match hand(&mut self.hub, sockets, keyed.at, keyed.key, now) {
@@ -256,7 +303,8 @@ impl Screens {
 
     /// The connection at a place took so many bytes, and is blocked or not.
     fn is_handed(&mut self, at: usize, count: usize, is_blocked: bool)
-        ensures { SameSeating self.old self.new }
+        ensures same { SameSeating self.old self.new }
+        ensures places { OtherConns self.old.conns self.new.conns at }
     {
         if let Some(conn) = self.conns.get_mut(at) {
             conn.is_blocked = is_blocked;
@@ -269,7 +317,12 @@ impl Screens {
     pub(crate) fn drain_all<S: Sockets>(&mut self, desk: &mut Desk, sockets: &mut S, node: &Node)
         ensures serving { StillServesFrom node.now.shown self.old self.new
             (S.socket sockets.old) (S.socket sockets.new) }
+        // what is pending at each place that may be written to is offered, once
+        ensures offers { (at : ℕ) (key : Key) → IsWritable (get self.old.conns at) key
+            → prefix_at self.old.hub key ≢ [] → IsAlone self.old.conns key at
+            → CalledOnce (S.offered sockets.old at) (S.offered sockets.new at) }
         ensures asks { S.asked sockets.new ≡ S.asked sockets.old }
+        ensures tries { NotCalled (S.tried sockets.old) (S.tried sockets.new) }
     {
         for at in 0..self.conns.capacity() {
             self.drain(desk, sockets, node, at);

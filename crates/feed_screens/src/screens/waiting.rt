@@ -1,15 +1,18 @@
 //! Who waits for room: long texts that screens have yet to take have a limit together.
 
-ghost use Rattle.std.specs.Prelude.{◌≡◌, ◌≢◌, ◌<◌, ◌≤◌, ◌↔◌, ◌^◌, ◌-◌, [], ℕ, List, None, Some, min, true, IsTrue, OnOk};
+ghost use Rattle.std.specs.Prelude.{◌≡◌, ◌≢◌, ◌<◌, ◌≤◌, ◌↔◌, ◌^◌, ◌-◌, [], ℕ, List, None, Some, ◌+◌, min, true, false, Ok, IsTrue, IfOk, IfSome, OnOk, option_map};
 ghost use Rattle.feed_node.specs.States.{NodeState};
-ghost use Rattle.feed_hub.specs.Seats.{seat_at};
+ghost use Rattle.feed_hub.specs.Steps.{IsCatchingUp};
+ghost use Rattle.feed_hub.specs.Seats.{seat_at, IsAskingSeat, IsWatcher};
+ghost use Rattle.feed_device.specs.Calls.{NotCalled};
 ghost use Rattle.feed_device.specs.Sockets.{AllSockets};
 ghost use Rattle.slab.specs.Slab.{get};
-ghost use Rattle.feed_screens.specs.Pending.{total, Pays, owed_text_at};
+ghost use Rattle.feed_screens.specs.Pending.{Pays, owed_text_at};
 ghost use Rattle.feed_screens.specs.Serving.{StillServesAll, StillAnswers, StillStand, SameSeating};
-ghost use Rattle.feed_screens.specs.Serving.{ServesBut, HasKey, HearsAll};
+ghost use Rattle.feed_screens.specs.Serving.{ServesBut, HasKey, HearsAll, OtherConns};
 ghost use Rattle.feed_screens.specs.Held.{SameMirrors};
 ghost use Rattle.feed_screens.specs.Waiting.{HasNotWaited, IsOverdue, IsSlow, HoldsUp, RefusesOne};
+ghost use Rattle.feed_screens.specs.Waiting.{HasAsked, HasRoom, IsAnotherNext, IsNext, IsFollowed, IsOverdueAt, IsTurnOf, IsWaiting, LacksRoom, MayShare, WaitsSince, WantsCommit, waiting_for};
 
 use crate::conn::Wanted;
 use crate::screens::{Answers, Hearing, Keyed, Screens, Shown, TextId};
@@ -25,8 +28,7 @@ impl Screens {
     /// Whether a long text may be made: those that screens have yet to take have fewer bytes than
     /// they may. So one may be made whatever its length, where there is no other.
     pub(crate) fn has_room(&self) -> bool
-        ensures { IsTrue result ↔ (min (total self.now.pending.texts.list.items) (2 ^ 64 - 1)
-            < self.now.limits.pending) }
+        ensures { IsTrue result ↔ HasRoom self.now }
     {
         self.pending.total() < self.limits.pending
     }
@@ -48,6 +50,7 @@ impl Screens {
         now: u64,
     ) -> Result<(), AllocError>
         ensures same { SameSeating self.old self.new }
+        ensures places { OtherConns self.old.conns self.new.conns at }
         ensures counts { OnOk result (65536 ≤ length → get self.old.conns at ≢ None
             → owed_text_at self.new.pending.places.items at ≡ Some id) }
     {
@@ -96,7 +99,8 @@ impl Screens {
 
     /// The connection at a place waits for room no more.
     pub(crate) fn end_wait(&mut self, at: usize)
-        ensures { SameSeating self.old self.new }
+        ensures same { SameSeating self.old self.new }
+        ensures places { OtherConns self.old.conns self.new.conns at }
     {
         if let Some(conn) = self.conns.get_mut(at) {
             conn.wait = None;
@@ -105,7 +109,11 @@ impl Screens {
 
     /// The connection at a place waits for this from now on, or for as long as it has waited.
     pub(crate) fn wait_for(&mut self, at: usize, wanted: Wanted, now: u64)
-        ensures { SameSeating self.old self.new }
+        ensures same { SameSeating self.old self.new }
+        ensures places { OtherConns self.old.conns self.new.conns at }
+        ensures waited { self.new.is_waited ≡ true }
+        ensures here { get self.new.conns at
+            ≡ option_map (waiting_for wanted now) (get self.old.conns at) }
     {
         self.is_waited = true;
         if let Some(conn) = self.conns.get_mut(at) {
@@ -116,8 +124,11 @@ impl Screens {
     /// Whether a long text may be made for the connection at a place: there is room, and nobody
     /// else has waited for that for longer.
     pub(crate) fn may_take_room(&self, at: usize) -> bool
-        ensures { IsTrue result → (min (total self.now.pending.texts.list.items) (2 ^ 64 - 1)
-            < self.now.limits.pending) }
+        ensures room { IsTrue result → HasRoom self.now }
+        // nobody goes before it
+        ensures turn { IsTrue result → self.now.is_waited ≡ true → IsTurnOf self.now.conns at }
+        // where there is room and it may not, another one goes before it
+        ensures others { result ≡ false → HasRoom self.now → IsAnotherNext self.now.conns at }
     {
         if !self.has_room() {
             return false;
@@ -129,7 +140,11 @@ impl Screens {
     }
 
     /// The place of the connection that has waited for longest for room, where somebody waits.
-    fn longest_waiting(&self) -> Option<usize> {
+    fn longest_waiting(&self) -> Option<usize>
+        ensures some { IfSome result (IsNext self.now.conns) }
+        ensures none { result ≡ None → self.now.is_waited ≡ true
+            → (at since : ℕ) → ¬ (WaitsSince (get self.now.conns at) since) }
+    {
         if !self.is_waited {
             return None;
         }
@@ -144,14 +159,21 @@ impl Screens {
 
     /// Whether a screen waits for a commit still. One that follows the log by now, or whose body
     /// ends, waits for none.
-    pub(crate) fn stays_waiting(&self, keyed: Keyed) -> bool {
+    pub(crate) fn stays_waiting(&self, keyed: Keyed) -> bool
+        ensures waits { IsTrue result → IsWatcher (λ s. IsCatchingUp s.way)
+            (seat_at self.now.hub.seats.slab keyed.key)
+            × ¬ (MayShare self.now.hub (get self.now.conns keyed.at)) }
+        ensures commit { IsTrue result → WantsCommit (get self.now.conns keyed.at) }
+    {
         self.wants_commit(keyed.at)
             && self.hub.catches_up(keyed.key)
             && !self.may_take_room(keyed.at)
             && !self.may_share(keyed.at)
     }
 
-    fn wants_commit(&self, at: usize) -> bool {
+    fn wants_commit(&self, at: usize) -> bool
+        ensures { IsTrue result ↔ WantsCommit (get self.now.conns at) }
+    {
         match self.conns.get(at) {
             Some(conn) => conn.wants_commit().is_some(),
             None => false,
@@ -160,7 +182,9 @@ impl Screens {
 
     /// Whether the screen at a place waits for a commit that perhaps another one has by now, and
     /// its socket may take that.
-    pub(crate) fn may_share(&self, at: usize) -> bool {
+    pub(crate) fn may_share(&self, at: usize) -> bool
+        ensures { IsTrue result ↔ MayShare self.now.hub (get self.now.conns at) }
+    {
         let Some(conn) = self.conns.get(at) else {
             return false;
         };
@@ -172,6 +196,7 @@ impl Screens {
 
     /// Whether these bytes end a request for which there is no room: a text has to be made for it.
     /// Where memory runs out for that look, the hub hears them all the same, and may run out of it.
+    #[tactic(auto, unfolding(crate::specs::Waiting::LacksRoom))]
     pub(crate) fn has_no_room(
         &self,
         alloc: Global,
@@ -179,7 +204,10 @@ impl Screens {
         contest: &str,
         keyed: Keyed,
         piece: &[u8],
-    ) -> bool {
+    ) -> bool
+        ensures { IsTrue result
+            → LacksRoom self.now answering.now contest.now keyed piece.now }
+    {
         if self.may_take_room(keyed.at) {
             return false;
         }
@@ -200,6 +228,14 @@ impl Screens {
             → HasKey self.old.conns keyed
             → ServesBut nodes contest self.old.hub self.old.conns sockets keyed.at piece.now
             → HearsAll nodes contest self.new sockets keyed.at result }
+        // it waits, unless something comes behind the request
+        ensures goes { result ≡ Ok Hearing.Goes → (self.new.is_waited ≡ true)
+            × (get self.new.conns keyed.at
+            ≡ option_map (waiting_for Wanted.Answer now) (get self.old.conns keyed.at)) }
+        ensures others { IfOk result (λ heard. heard ≢ Hearing.Goes
+            → IsFollowed (min (now + 60000) (2 ^ 64 - 1)) piece.now
+            (seat_at self.old.hub.seats.slab keyed.key)
+            (seat_at self.new.hub.seats.slab keyed.key)) }
     {
         let until = now.saturating_add(2 * ROOM_TIME);
         let taken = self.hub.hold(keyed.key, piece, until)?;
@@ -223,6 +259,7 @@ impl Screens {
             self.new (S.socket sockets.old) (S.socket sockets.new) }
         ensures mirrors { SameMirrors answers.old answers.new }
         ensures asks { S.asked sockets.new ≡ S.asked sockets.old }
+        ensures tries { NotCalled (S.tried sockets.old) (S.tried sockets.new) }
     {
         self.serve_first(desk, sockets, answers, shown);
         if answers.shown.has_text() {
@@ -242,6 +279,7 @@ impl Screens {
             self.new (S.socket sockets.old) (S.socket sockets.new) }
         ensures mirrors { SameMirrors answers.old answers.new }
         ensures asks { S.asked sockets.new ≡ S.asked sockets.old }
+        ensures tries { NotCalled (S.tried sockets.old) (S.tried sockets.new) }
     {
         for _ in 0..ANSWERS {
             let Some(at) = self.longest_waiting() else {
@@ -267,6 +305,7 @@ impl Screens {
             self.new (S.socket sockets.old) (S.socket sockets.new) }
         ensures mirrors { SameMirrors answers.old answers.new }
         ensures asks { S.asked sockets.new ≡ S.asked sockets.old }
+        ensures tries { NotCalled (S.tried sockets.old) (S.tried sockets.new) }
     {
         for at in 0..self.conns.capacity() {
             self.share_at(desk, sockets, answers, shown, at);
@@ -286,6 +325,7 @@ impl Screens {
             self.new (S.socket sockets.old) (S.socket sockets.new) }
         ensures mirrors { SameMirrors answers.old answers.new }
         ensures asks { S.asked sockets.new ≡ S.asked sockets.old }
+        ensures tries { NotCalled (S.tried sockets.old) (S.tried sockets.new) }
     {
         if self.wants_answer(at) {
             self.serve_at(desk, sockets, answers, shown, at);
@@ -293,12 +333,16 @@ impl Screens {
     }
 
     /// Whether the connection at a place waits for room.
-    fn waits(&self, at: usize) -> bool {
+    fn waits(&self, at: usize) -> bool
+        ensures { IsTrue result ↔ IsWaiting (get self.now.conns at) }
+    {
         self.conns.get(at).is_some_and(|conn| conn.wait.is_some())
     }
 
     /// Whether the request of the connection at a place waits for room.
-    pub(crate) fn wants_answer(&self, at: usize) -> bool {
+    pub(crate) fn wants_answer(&self, at: usize) -> bool
+        ensures { IsTrue result ↔ HasAsked (get self.now.conns at) }
+    {
         self.conns.get(at).is_some_and(|conn| conn.wants_answer())
     }
 
@@ -316,6 +360,7 @@ impl Screens {
             self.new (S.socket sockets.old) (S.socket sockets.new) }
         ensures mirrors { SameMirrors answers.old answers.new }
         ensures asks { S.asked sockets.new ≡ S.asked sockets.old }
+        ensures tries { NotCalled (S.tried sockets.old) (S.tried sockets.new) }
     {
         self.answer_at(desk, sockets, answers, shown, at);
         self.drain(desk, sockets, answers.shown.node(), at);
@@ -335,6 +380,7 @@ impl Screens {
             self.new (S.socket sockets.old) (S.socket sockets.new) }
         ensures mirrors { SameMirrors answers.old answers.new }
         ensures asks { S.asked sockets.new ≡ S.asked sockets.old }
+        ensures tries { NotCalled (S.tried sockets.old) (S.tried sockets.new) }
     {
         let Some(key) = self.asking(at) else {
             return;
@@ -352,8 +398,15 @@ impl Screens {
             → get self.new.conns at ≡ get self.old.conns at }
         ensures seats { (key : Key) → HasNotWaited self.old.conns key desk.old.time
             → seat_at self.new.hub.seats.slab key ≡ seat_at self.old.hub.seats.slab key }
+        // and of those who have nobody asks any more
+        ensures goes { self.old.is_waited ≡ true
+            → (at : ℕ) → ¬ (IsOverdueAt self.new at desk.old.time) }
+        // nobody who waits is forgotten
+        ensures waits { self.old.is_waited ≡ true → self.new.is_waited ≡ false
+            → (at : ℕ) → ¬ (IsWaiting (get self.new.conns at)) }
         ensures time { desk.new.time ≡ desk.old.time }
         ensures asks { S.asked sockets.new ≡ S.asked sockets.old }
+        ensures tries { NotCalled (S.tried sockets.old) (S.tried sockets.new) }
     {
         if !self.is_waited {
             return;
@@ -370,8 +423,13 @@ impl Screens {
         ensures serving { StillServesAll self.old self.new
             (S.socket sockets.old) (S.socket sockets.new) }
         ensures refuses { RefusesOne self.old self.new at desk.old.time }
+        // one that has waited for so long asks no more
+        ensures goes { ¬ (IsOverdueAt self.new at desk.old.time) }
+        ensures asking { (key : Key) → IsAskingSeat (seat_at self.new.hub.seats.slab key)
+            → IsAskingSeat (seat_at self.old.hub.seats.slab key) }
         ensures time { desk.new.time ≡ desk.old.time }
         ensures asks { S.asked sockets.new ≡ S.asked sockets.old }
+        ensures tries { NotCalled (S.tried sockets.old) (S.tried sockets.new) }
     {
         if self.is_overdue(at, desk.time) {
             self.refuse_at(desk, sockets, at);
@@ -390,6 +448,7 @@ impl Screens {
             → (at : ℕ) → ¬ (HoldsUp self.new at desk.old.time) }
         ensures time { desk.new.time ≡ desk.old.time }
         ensures asks { S.asked sockets.new ≡ S.asked sockets.old }
+        ensures tries { NotCalled (S.tried sockets.old) (S.tried sockets.new) }
     {
         if self.is_waited {
             self.has_more = true;
@@ -398,7 +457,10 @@ impl Screens {
     }
 
     /// Whether somebody waits for room.
-    fn somebody_waits(&self) -> bool {
+    fn somebody_waits(&self) -> bool
+        ensures none { result ≡ false → (at : ℕ) → ¬ (IsWaiting (get self.now.conns at)) }
+        ensures some { result ≡ true → (at : ℕ) × IsWaiting (get self.now.conns at) }
+    {
         for at in 0..self.conns.capacity() {
             if self.waits(at) {
                 return true;
@@ -408,7 +470,7 @@ impl Screens {
     }
 
     fn is_overdue(&self, at: usize, now: u64) -> bool
-        ensures { IsTrue result → IsOverdue (get self.now.conns at) now }
+        ensures { IsTrue result ↔ IsOverdue (get self.now.conns at) now }
     {
         match self.conns.get(at) {
             Some(conn) => conn.is_overdue(now),

@@ -1,7 +1,9 @@
 use Rattle.std.proofs.Common.{◌≡◌, ℕ, List}
 use Rattle.std.specs.Prelude.{Contains}
+use Rattle.feed_device.specs.Calls.{NotCalled}
 use Rattle.feed_node.specs.States.{NodeState}
 use Rattle.feed_screens.specs.Serving.{StillServing}
+use Rattle.feed_screens.proofs.OfferLemmas.{HaveBeenOffered, AreAhead}
 use Rattle.feed_screens.proofs.screens.Screens.drain_all.Given as goal
 
 abbrev pub invariant-loop-at : goal.invariant-loop-at
@@ -10,4 +12,7 @@ invariant-loop-at g l =
       serving : (nodes : List NodeState) (contest : List ℕ) → Contains nodes l.node.shown
           → StillServing nodes contest l.initial.self l.self (g.S.Sockets.socket l.initial.sockets) (g.S.Sockets.socket l.sockets);
       asks : g.S.Sockets.asked l.sockets ≡ g.S.Sockets.asked l.initial.sockets;
+      tries : NotCalled (g.S.Sockets.tried l.initial.sockets) (g.S.Sockets.tried l.sockets);
+      offered : HaveBeenOffered l.initial.self (g.S.Sockets.offered l.initial.sockets) (g.S.Sockets.offered l.sockets) l.at;
+      ahead : AreAhead l.initial.self l.self (g.S.Sockets.offered l.initial.sockets) (g.S.Sockets.offered l.sockets) l.at;
     }

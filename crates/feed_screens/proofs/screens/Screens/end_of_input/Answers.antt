@@ -12,3 +12,6 @@ returns-in-Some-Lingers-clause-serving g c =
 pub returns-in_default-clause-serving : goal.returns-in_default-clause-serving
 returns-in_default-clause-serving g c =
     λ nodes contest serving. c.probe_at.ensures.serving nodes contest _ (serving_noted c.has_ended.ensures.same serving)
+
+pub returns-then-wants_answer-clause-serving : goal.returns-then-wants_answer-clause-serving
+returns-then-wants_answer-clause-serving g c = λ nodes contest serving. serving_noted c.has_ended.ensures.same serving

@@ -27,7 +27,7 @@ returns-else-is_over-clause-serving g c =
 pub returns-then-has_made_most-clause-serving : goal.returns-then-has_made_most-clause-serving
 returns-then-has_made_most-clause-serving g c =
     λ nodes contest among keyed serving.
-    serving_noted c.has_more_to_write.ensures (serving_noted c.pay.ensures.same serving)
+    serving_noted c.has_more_to_write.ensures.same (serving_noted c.pay.ensures.same serving)
 
 pub returns-then-stays_waiting-clause-serving : goal.returns-then-stays_waiting-clause-serving
 returns-then-stays_waiting-clause-serving g c = λ nodes contest among keyed serving. serving_noted c.pay.ensures.same serving

@@ -1,6 +1,6 @@
-use Rattle.std.proofs.Common.{◌≡◌, ◌∙◌, refl, ap, sym, subst, inl, inr, Some}
+use Rattle.std.proofs.Common.{◌≡◌, ◌≢◌, ◌∙◌, refl, ap, sym, subst, inl, inr, Some}
 use Rattle.slab.specs.Slab.{get}
-use Rattle.feed_hub.specs.Seats.{seat_at}
+use Rattle.feed_hub.specs.Seats.{seat_at, IsAskingSeat}
 use Rattle.feed_hub.specs.Hub.{ChangesOnly}
 use Rattle.feed_screens.specs.Serving.{key_at, keyless}
 use Rattle.feed_screens.proofs.RoomLemmas.{has_no_key}
@@ -33,6 +33,17 @@ returns-clause-refuses g c =
           ∙ c.leave.ensures.rest.others key (λ same. not (subst (λ k. key_at c.args.self.now.conns c.args.at ≡ Some (Some k)) (sym same) keyed));
       here = inr (λ key is. has_no_key _ key (sym (c.linger.ensures.key ∙ ap (λ s. keyless (key_at s c.args.at)) c.refuse.ensures.conns) ∙ is));
     }
+
+pub returns-clause-goes : goal.returns-clause-goes
+returns-clause-goes g c =
+    λ is. has_no_key _ is.key (sym (c.linger.ensures.key ∙ ap (λ s. keyless (key_at s c.args.at)) c.refuse.ensures.conns) ∙ is.keyed)
+
+pub returns-clause-asking : goal.returns-clause-asking
+returns-clause-asking g c key asked =
+    let hub = c.linger.ensures.hub ∙ c.refuse.ensures.hub in
+    let before : IsAskingSeat (seat_at c.leave.new.self.seats.slab key) = subst (λ h. IsAskingSeat (seat_at h.seats.slab key)) hub asked in
+    let other : key ≢ c.in-Some.key = λ same. subst IsAskingSeat c.leave.ensures.seat (subst (λ k. IsAskingSeat (seat_at c.leave.new.self.seats.slab k)) same before) in
+    subst IsAskingSeat (c.leave.ensures.rest.others key other) before
 
 pub returns-in_default-clause-refuses : goal.returns-in_default-clause-refuses
 returns-in_default-clause-refuses g c = record { others = λ other away. refl; seats = λ key not. refl; here = inl refl }

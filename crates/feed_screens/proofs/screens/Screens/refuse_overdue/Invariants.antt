@@ -1,6 +1,8 @@
-use Rattle.std.proofs.Common.{◌≡◌, ℕ, List}
+use Rattle.std.proofs.Common.{◌≡◌, ◌<◌, ℕ, List}
+use Rattle.feed_device.specs.Calls.{NotCalled}
 use Rattle.feed_node.specs.States.{NodeState}
 use Rattle.feed_screens.specs.Serving.{StillServing}
+use Rattle.feed_screens.specs.Waiting.{IsOverdueAt}
 use Rattle.feed_screens.proofs.RoomLemmas.{RefusesOverdue}
 use Rattle.feed_screens.proofs.screens.Screens.refuse_overdue.Given as goal
 
@@ -11,5 +13,7 @@ invariant-loop-at g l =
           → StillServing nodes contest l.initial.self l.self (g.S.Sockets.socket l.initial.sockets) (g.S.Sockets.socket l.sockets);
       time : l.desk.time ≡ l.initial.desk.time;
       asks : g.S.Sockets.asked l.sockets ≡ g.S.Sockets.asked l.initial.sockets;
+      tries : NotCalled (g.S.Sockets.tried l.initial.sockets) (g.S.Sockets.tried l.sockets);
+      gone : (at : ℕ) → at < l.at → ¬ (IsOverdueAt l.self at l.initial.desk.time);
       refuses : RefusesOverdue l.initial.self l.self l.initial.desk.time;
     }

@@ -1,5 +1,6 @@
 use Rattle.std.proofs.Common.{◌≡◌, List, true}
 use Rattle.std.specs.Prelude.{Contains}
+use Rattle.feed_device.specs.Calls.{NotCalled}
 use Rattle.feed_node.specs.States.{NodeState}
 use Rattle.feed_screens.specs.Held.{SameMirrors}
 use Rattle.feed_screens.specs.Serving.{StillServing}
@@ -12,4 +13,5 @@ invariant-loop g l =
       serving : (nodes : List NodeState) → Contains nodes l.initial.answers.shown.mirror.node → (l.shown.is_held ≡ true → Contains nodes l.initial.answers.blank.mirror.node)
           → StillServing nodes l.shown.contest.now l.initial.self l.self (g.S.Sockets.socket l.initial.sockets) (g.S.Sockets.socket l.sockets);
       asks : g.S.Sockets.asked l.sockets ≡ g.S.Sockets.asked l.initial.sockets;
+      tries : NotCalled (g.S.Sockets.tried l.initial.sockets) (g.S.Sockets.tried l.sockets);
     }

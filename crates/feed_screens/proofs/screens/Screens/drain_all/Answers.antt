@@ -1,0 +1,32 @@
+use Rattle.std.proofs.Common.{rules, arith, ◌≡◌, ◌<◌, ◌∙◌, ap, sym, subst, length}
+use Rattle.slab.specs.Slab.{get}
+use Rattle.feed_hub.specs.Seats.{seat_at}
+use Rattle.feed_screens.specs.Serving.{ServesScreens}
+use Rattle.feed_screens.proofs.OfferLemmas.{ahead_next, offered_next, is_within}
+use Rattle.feed_screens.proofs.screens.Screens.drain_all.Goals as goal
+
+pub loop-at-preserved : goal.loop-at-preserved
+loop-at-preserved g c =
+    let offered = g.S.Sockets.offered in
+    let hub : c.if-is_some_and.self.hub ≡ c.drain.new.self.hub = search rules in
+    let conns : c.if-is_some_and.self.conns ≡ c.drain.new.self.conns = search rules in
+    record {
+      serving = λ nodes contest among serving.
+          subst (λ h. ServesScreens nodes contest h c.if-is_some_and.self.conns (g.S.Sockets.socket c.drain.new.sockets)) (sym hub)
+          (subst (λ s. ServesScreens nodes contest c.drain.new.self.hub s (g.S.Sockets.socket c.drain.new.sockets)) (sym conns)
+          (c.drain.ensures.serving nodes contest among (c.loop-at.invariant.serving nodes contest among serving)));
+      asks = c.drain.ensures.asked ∙ c.loop-at.invariant.asks;
+      tries = λ n. c.drain.ensures.tries n ∙ c.loop-at.invariant.tries n;
+      offered = offered_next c.args.self.now c.loop-at.self (offered c.args.sockets.now) (offered c.loop-at.sockets) (offered c.drain.new.sockets) c.loop-at.at
+          c.loop-at.invariant.ahead c.loop-at.invariant.offered c.drain.ensures.rest c.drain.ensures.offers;
+      ahead = ahead_next c.args.self.now c.loop-at.self c.if-is_some_and.self (offered c.args.sockets.now) (offered c.loop-at.sockets) (offered c.drain.new.sockets) c.loop-at.at
+          c.loop-at.invariant.ahead
+          (λ other away. ap (λ s. get s other) conns ∙ c.drain.ensures.places other away) c.drain.ensures.rest
+          (λ key no. ap (λ h. seat_at h.seats.slab key) hub ∙ c.drain.ensures.seats key no)
+          (ap (λ h. h.broadcast) hub ∙ c.drain.ensures.log);
+    }
+
+pub returns-clause-offers : goal.returns-clause-offers
+returns-clause-offers g c at key writable pending alone =
+    let within : at < length c.args.self.now.conns.slots = is_within c.args.self.now.conns at key writable in
+    c.loop-at.invariant.offered at key (omega (arith, within, c.capacity-at-end.ensures.slots, c.loop-at-test.false)) writable pending alone
