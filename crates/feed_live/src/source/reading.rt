@@ -397,7 +397,7 @@ impl Source {
         ensures says { self.old.coming ≡ None
             → SaysAll screens.new self.new.answers.shown.mirror.node desk.new.time }
         ensures heeds { HeedsTime self.old self.new desk.old.time desk.new.time }
-        // what was published is news, and counts, where the feed goes on; where nothing was, nothing does
+        // where the feed goes on, what was published is news; where nothing was, nothing changes
         ensures news { self.old.coming ≡ None → self.old.is_fresh ≡ false
             → screens.old.hub.broadcast.told ≢ published_token self.old.answers.shown.mirror.node
             → HasPublishedAt self.new desk.old.time }
