@@ -1,7 +1,7 @@
 -- How the times that a relay keeps of its server stay.
-use Rattle.std.proofs.Common.{◌≡◌, ◌≢◌, ◌⊎◌, inl, inr, refl, sym, ap, ◌∙◌, subst, ℕ, ◌+◌, ◌≤◌, arith, drop, Option, Some, None}
-use Rattle.std.specs.Prelude.{Bool, true, false, ◌&&◌, ◌||◌, not, option_map, if◌then◌else◌, is_none, nat_le, nat_eq, length, min, max}
-use Rattle.feed_device.specs.Calls.{LinkCalls, CalledOnce, CalledAtLeastOnce}
+use Rattle.std.proofs.Common.{◌≡◌, inl, inr, refl, sym, ap, ◌∙◌, subst, ℕ, ◌+◌, ◌≤◌, arith, drop, Option, Some, None}
+use Rattle.std.specs.Prelude.{Bool, true, false, ◌&&◌, ◌||◌, not, option_map, if◌then◌else◌, is_none, nat_le, nat_eq, length, max}
+use Rattle.feed_device.specs.Calls.{LinkCalls}
 use Rattle.feed_hub.specs.Upstream.{later, has_another, asked_next}
 use Rattle.feed_live.specs.declared.source.Source.{Source}
 use Rattle.feed_live.specs.declared.source.Reach.{Reach}
@@ -9,7 +9,7 @@ use Rattle.feed_live.specs.declared.source.Reach.TheVariants.{Away, Connects, As
 use Rattle.feed_live.specs.Calling.{HeedsLink}
 use Rattle.feed_live.specs.Leaving.{is_past, quiet_at, quiet_since, may_be_left, why_left, newest_time, IsToStay}
 use Rattle.feed_live.specs.Relaying.{SameSource, SameWaiting, settings_of}
-use Rattle.feed_live.specs.Times.{AreBy, SourceTimes, times_of, KeepsTimes, HeadStays, HeedsTime, SameTimes}
+use Rattle.feed_live.specs.Times.{AreBy, times_of, KeepsTimes, HeadStays, HeedsTime, SameTimes}
 use Rattle.feed_live.proofs.TurnLemmas.{why_same}
 
 pub keeps_none : (source : Source) (now : ℕ) → KeepsTimes source source now now

@@ -1,7 +1,6 @@
 -- What a relay does with its connection to a server, once an event came for it.
-use Rattle.std.specs.Prelude.{◌≡◌, ◌≢◌, ◌⊎◌, ℕ, List, [], drop, Option, None}
+use Rattle.std.specs.Prelude.{◌≡◌, ◌≢◌, ℕ, [], drop, Option, None}
 use Rattle.feed_device.specs.Calls.{LinkCalls, CalledOnce, CalledAtLeastOnce}
-use Rattle.feed_live.specs.declared.source.Reach.{Reach}
 use Rattle.feed_live.specs.declared.source.Reach.TheVariants.{Connects, Asks, Reads}
 use Rattle.feed_live.specs.declared.source.Source.{Source}
 

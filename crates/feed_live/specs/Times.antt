@@ -3,7 +3,7 @@ use Rattle.std.specs.Prelude.{◌≡◌, ◌≢◌, ◌⊎◌, ℕ, ◌+◌, ◌
 use Rattle.feed_live.specs.declared.source.Reach.{Reach}
 use Rattle.feed_live.specs.declared.source.Reach.TheVariants.{Away, Connects, Asks, Reads}
 use Rattle.feed_live.specs.declared.source.Source.{Source}
-use Rattle.feed_live.specs.Relaying.{SourceSettings, settings_of}
+use Rattle.feed_live.specs.Relaying.{settings_of}
 
 -- How far the connection is; when its last byte came, or the next one is due; when the first server
 -- was asked last; when the connection was begun, and its head came; when something was published

@@ -1,5 +1,5 @@
 use Rattle.std.specs.Prelude.{is_none}
-use Rattle.std.proofs.Common.{◌∙◌, ◌≡◌, sym, []}
+use Rattle.std.proofs.Common.{◌∙◌, sym}
 use Rattle.feed_device.proofs.CallLemmas.{since_once, since_then}
 use Rattle.feed_live.specs.Calling.{MayReadOn}
 use Rattle.feed_live.specs.Relaying.{followed_by}

@@ -1,5 +1,5 @@
 use Rattle.std.specs.Prelude.{is_none}
-use Rattle.std.proofs.Common.{◌∙◌, ◌≡◌, sym, ap, subst, []}
+use Rattle.std.proofs.Common.{◌∙◌, sym, ap, subst}
 use Rattle.feed_device.proofs.CallLemmas.{called_once, least_then}
 use Rattle.feed_device.specs.Calls.{CalledAtLeastOnce}
 use Rattle.feed_live.specs.Calling.{MayReadOn}

@@ -1,4 +1,3 @@
-use Rattle.std.proofs.Common.{rules}
 use Rattle.feed_live.proofs.AfreshLemmas.{both_show, first_none, second_none}
 use Rattle.feed_live.proofs.source.settling.have_one_state.Goals as goal
 
