@@ -18,7 +18,7 @@ use Rattle.feed_live.specs.declared.turn.Turn.{Turn}
 use Rattle.feed_live.specs.Due.{IsDueInTime}
 use Rattle.feed_live.specs.Laws.{ShowsTheLog}
 use Rattle.feed_live.specs.Leaving.{LooksInTime, silent_at}
-use Rattle.feed_live.specs.Relaying.{IsRelaying, StillRelaying}
+use Rattle.feed_live.specs.Relaying.{IsRelaying, StillRelaying, SameWaiting}
 use Rattle.feed_live.specs.Running.{InputSoFar, nothing_came, has_ended_by, came_on, came_more, HostCalls, waited_for, reported_once, Surroundings, surroundings, Moment, moment_of, node_at_moment, KeepsFilesAt, at_once, RunsFrom, IsRelayOver, IsTurn, IsSameRelay, IsRun, waited_at, calls_in, HasRun, servers_of_setup, AreUnused, AreAllFilesOfLog, BeginsAsSetUp, IsKnownHonestInput, EndsWithItsInput, TakesAllAt, EndsOrStops, TakesItsInput, KeepsToTheLog}
 use Rattle.feed_files.specs.Saved.{ArePartsOfRecords, KeepsFiles}
 use Rattle.feed_live.specs.Times.{KeepsTimes}
@@ -106,6 +106,7 @@ cleared {old} {live} {after} {next} {time} {around} turn relaying taking same =
       wakes = λ more. turn.wakes (subst (λ s. s.has_more ≡ true) same.screens more);
       says = subst (λ screens. IfSome screens.saying.waits (λ at. turn.now ≤ at → next.due ≤ at)) (sym same.screens) turn.says;
       due = still_due same turn.due;
+      pauses = λ no_feed away more before. subst (λ s. SameWaiting old.live.source s) (sym same.source) (turn.pauses no_feed away more before);
       keeps = λ no_feed. subst (λ s. KeepsTimes old.live.source s turn.now turn.now) (sym same.source) (turn.keeps no_feed);
       ends = record {
         limits = same.limits ∙ turn.ends.limits;

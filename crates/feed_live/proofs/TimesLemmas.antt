@@ -34,6 +34,7 @@ heeds_then {a} {b} {c} two one =
     record {
       keeps = keeps_then two.keeps one.keeps;
       away = λ away. two.away (one.away away);
+      connects = λ since at. one.connects since (two.connects since at);
       opened = two.opened ∙ one.opened;
       head = λ stays. head_then a.body_since b.body_since c.body_since one.keeps.clock (two.head stays) (one.head (λ away. stays (two.away away)));
     }
@@ -44,6 +45,7 @@ heeds_until same heeds =
     record {
       keeps = record { set = heeds.keeps.set; times = heeds.keeps.times; clock = same ∙ heeds.keeps.clock };
       away = heeds.away;
+      connects = heeds.connects;
       opened = heeds.opened;
       head = heeds.head;
     }
@@ -56,6 +58,7 @@ heeds_same now same =
     record {
       keeps = keeps_same now same;
       away = λ away. ap (λ t. t.reach) same.times ∙ away;
+      connects = λ since at. sym (ap (λ t. t.reach) same.times) ∙ at;
       opened = ap (λ t. t.opened) same.times;
       head = λ stays. inl (ap (λ t. t.head) same.times);
     }

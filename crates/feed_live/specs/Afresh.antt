@@ -15,15 +15,15 @@ are_one None other = false
 abbrev pub have_one_token : NodeState → NodeState → Bool
 have_one_token one other = are_one (published_token one) (published_token other)
 
--- both have published, and that is the same
-abbrev pub ArePublished : Option Published → Option Published → Type 0
-ArePublished (Some one) (Some other) = one.tables ≡ other.tables
-ArePublished (Some one) None = ⊥
-ArePublished None other = ⊥
+-- both have published, and the same tables
+abbrev pub AreSameTables : Option Published → Option Published → Type 0
+AreSameTables (Some one) (Some other) = one.tables ≡ other.tables
+AreSameTables (Some one) None = ⊥
+AreSameTables None other = ⊥
 
 -- two nodes show the same tables
 abbrev pub HaveOneState : NodeState → NodeState → Type 0
-HaveOneState one other = ArePublished one.published other.published
+HaveOneState one other = AreSameTables one.published other.published
 
 -- what comes has published, which gave it a token to ask with
 abbrev pub has_come : Option MirrorState → Bool
@@ -58,7 +58,8 @@ abbrev pub is_to_compare : Source → MirrorState → Bool
 is_to_compare source coming =
     not source.settling.is_compared && have_one_token coming.node source.answers.shown.mirror.node
 
--- It is compared then, once: whether it has the state that is shown. One that has it counts as heard.
+-- It is compared then, once: whether it has the state that is shown. One that has it counts as
+-- heard.
 pub record Compares (old new : Source) (coming : MirrorState) : Type 0 where
   pub once : is_to_compare old coming ≡ true → new.settling.is_compared ≡ true
   pub same : is_to_compare old coming ≡ true → IsTrue new.settling.is_same

@@ -5,8 +5,8 @@ use Rattle.feed_live.specs.Leaving.{LooksInTime, silent_at}
 
 -- It is due in time for its state files: at once where there is more to write, and after a failure
 -- when they are tried again. So it is for its end; and, unless it ends, for the next connection and
--- the server that is followed: when that is silent, late, or to be left for having nothing new, when
--- it counts as heard, and at once where there is more of it to read.
+-- the server that is followed: when that is silent, late, or to be left for having nothing new,
+-- when it counts as heard, and at once where there is more of it to read.
 pub record IsDueInTime (live : Live) (now due : ℕ) : Type 0 where
   pub saves : IfSome live.saved (λ saved. saved.has_more ≡ true → due ≤ now)
   pub again : IfSome live.saved (λ saved. saved.has_more ≡ false → saved.is_failing ≡ true

@@ -37,8 +37,8 @@ is_end Memory = false
 
 -- ---- a server that does not answer
 
--- A server was left for having nothing new. Since then nothing was published, and none was lost that
--- had answered.
+-- A server was left for having nothing new. Since then nothing was published, and none was lost
+-- that had answered.
 abbrev pub has_left_quiet : Returning → Bool
 has_left_quiet returning = nat_lt 0 returning.left_quiet
 
@@ -146,15 +146,15 @@ heard_time source =
     if source.is_heard || source.is_fresh || is_some source.rechecking.again then None
     else option_map (λ since. later since 1000) source.body_since
 
--- When one that was asked for the newest commit again, and has not sent that, is asked with the newest
--- token: a second after the head of its answer, if none was heard.
+-- When one that was asked for the newest commit again, and has not sent that, is asked with the
+-- newest token: a second after the head of its answer, if none was heard.
 abbrev pub newest_time : Source → Option ℕ
 newest_time source =
     if source.is_heard || is_none source.rechecking.again then None
     else option_map (λ since. later since 1000) source.body_since
 
--- The next connection asks for the newest commit again: the relay is set to, holds the commit before
--- that, does not ask for everything, and the server does not lack the commit before.
+-- The next connection asks for the newest commit again: the relay is set to, holds the commit
+-- before that, does not ask for everything, and the server does not lack the commit before.
 abbrev pub is_to_recheck : Source → Bool
 is_to_recheck source =
     source.rechecking.is_on && not source.rechecking.asks_newest
@@ -221,8 +221,8 @@ IsToStay source idle now =
 
 -- ---- when a relay looks
 
--- no later than a server is silent or late, is left for having nothing new, counts as heard, or is asked with
--- the newest token
+-- no later than a server is silent or late, is left for having nothing new, counts as heard, or is
+-- asked with the newest token
 pub record LooksInTime (source : Source) (due : ℕ) : Type 0 where
   pub late : IsBy (late_time source) due
   pub quiet : IsBy (quiet_at source source.reach) due

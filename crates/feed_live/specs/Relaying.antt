@@ -263,8 +263,8 @@ pub record SameButUnread (old new : Source) : Type 0 where
   pub reach : new.reach ≡ old.reach
   pub request : new.request ≡ old.request
 
--- The server was left: no response is followed, and none has a head. What is shown stays, and so does
--- when the connection was begun.
+-- The server was left: no response is followed, and none has a head. What is shown stays, and so
+-- does when the connection was begun.
 pub record WasLeft (old new : Source) (before after : Exchanges) : Type 0 where
   pub servers : servers_of new ≡ servers_of old
   pub exchanges : after ≡ before

@@ -1,5 +1,5 @@
 -- A run of a relay: what it begins with, and turn after turn, to its end.
-use Rattle.std.specs.Prelude.{◌≡◌, ◌≢◌, ◌⊎◌, ◌↔◌, ℕ, suc, ◌+◌, ◌-◌, ◌^◌, ◌≤◌, min, Bool, true, false, List, [], ◌∷◌, ◌++◌, length, map, Option, Some, None, option_map, is_none, ◌&&◌, IfSome, Contains, Result, OnOk, IsErr}
+use Rattle.std.specs.Prelude.{◌≡◌, ◌≢◌, ◌⊎◌, ◌↔◌, ℕ, suc, ◌+◌, ◌-◌, ◌^◌, ◌<◌, ◌≤◌, min, Bool, true, false, List, [], ◌∷◌, ◌++◌, length, map, Option, Some, None, option_map, is_none, ◌&&◌, IfSome, Contains, Result, OnOk, IsErr}
 use Rattle.std.specs.List.{AllByRecursion}
 use Rattle.slab.specs.Slab.{slab_len}
 use Rattle.feed_settings.specs.Limits.{Limits}
@@ -22,11 +22,12 @@ use Rattle.feed_live.specs.declared.turn.Turn.{Turn}
 use Rattle.feed_live.specs.Due.{IsDueInTime}
 use Rattle.feed_live.specs.Ending.{EndsWithInput}
 use Rattle.feed_live.specs.Laws.{ShowsTheLog}
-use Rattle.feed_live.specs.Relaying.{IsRelaying, StillRelaying}
+use Rattle.feed_live.specs.Relaying.{IsRelaying, SameWaiting, StillRelaying}
+use Rattle.feed_live.specs.declared.source.Reach.TheVariants.{Away}
 use Rattle.feed_files.specs.Saved.{ArePartsOfRecords, KeepsFiles}
 use Rattle.feed_live.specs.States.{states_of}
 use Rattle.feed_live.specs.Taking.{IsTakingInput, StillTaking, StopsTaking, bytes_in}
-use Rattle.feed_live.specs.Times.{KeepsTimes}
+use Rattle.feed_live.specs.Times.{AreBy, KeepsTimes, times_of}
 use Rattle.feed_files.specs.Input.{TakesInput, StopsInput}
 use Rattle.feed_live.specs.Upstream.{Servers, AreKnownHonest}
 use Rattle.feed_files.specs.Input.{IsHonestInput}
@@ -151,6 +152,9 @@ pub record IsTurn (old new : Moment) : Type 0 where
   pub awake : new.next.due ≤ min (new.live.reported + 60000) (2 ^ 64 - 1)
   pub due : IsDueInTime new.live now new.next.due
   pub keeps : old.live.feeds ≡ false → KeepsTimes old.live.source new.live.source now now
+  pub pauses : old.live.feeds ≡ false → old.live.source.reach ≡ Away
+      → old.live.source.has_more ≡ false → now < old.live.source.upstream.since
+      → SameWaiting old.live.source new.live.source
   pub ends : EndsWithInput old.live new.live given
   pub takes : new.next.takes_input
       ≡ (is_none new.live.ends_at && is_none new.live.screens.saying.waits)
@@ -242,6 +246,7 @@ pub record BeginsAsSetUp (setup : Setup) (old new : StateFiles) (live : Live) : 
   pub feeds : setup.places.items ≡ [] → live.feeds ≡ true
   pub limits : live.limits ≡ setup.limits
   pub goes_on : live.ends_at ≡ None
+  pub times : (latest : ℕ) → AreBy latest (times_of live.source)
   pub kept : (log : Log) (nodes : List NodeState) → AreAllFilesOfLog setup.kept log nodes old
       → KeepsFiles nodes new live.saved
   pub had : new.had ≡ old.had

@@ -1,13 +1,13 @@
--- The times that a relay keeps of the server that it follows, in milliseconds: none is put off.
+-- The times that a relay keeps of the server that it follows, in milliseconds.
 use Rattle.std.specs.Prelude.{◌≡◌, ◌≢◌, ◌⊎◌, ℕ, ◌+◌, ◌≤◌, Option, Some, None, IfSome}
 use Rattle.feed_live.specs.declared.source.Reach.{Reach}
 use Rattle.feed_live.specs.declared.source.Reach.TheVariants.{Away, Connects, Asks, Reads}
 use Rattle.feed_live.specs.declared.source.Source.{Source}
 use Rattle.feed_live.specs.Relaying.{settings_of}
 
--- How far the connection is; when its last byte came, or the next one is due; when the first server
--- was asked last; when the connection was begun, and its head came; when something was published
--- last; and since when it sends everything.
+-- How far the connection is; when its last byte came or, while there is none, when one is due; when
+-- the first server was asked last; when the connection was begun, and its head came; when something
+-- was published last; and since when it sends everything.
 pub record SourceTimes : Type 0 where
   pub reach : Reach
   pub since : ℕ
@@ -47,21 +47,23 @@ pub record AreBy (latest : ℕ) (times : SourceTimes) : Type 0 where
   pub published : times.published ≤ latest
   pub replays : times.replays ≤ latest
 
--- neither are they put off, nor is what the relay is set to another; and the clock stands
+-- So it is after a step at a time, if it was before. The relay is set to the same, and the clock
+-- stands.
 pub record KeepsTimes (old new : Source) (now after : ℕ) : Type 0 where
   pub set : settings_of new ≡ settings_of old
-  pub times : (latest : ℕ) → now ≤ latest → AreBy latest (times_of old) → AreBy latest (times_of new)
+  pub times : (latest : ℕ) → now ≤ latest → AreBy latest (times_of old)
+      → AreBy latest (times_of new)
   pub clock : after ≡ now
 
 -- once the head of the answer came, that stays so; it comes now
 abbrev pub HeadStays : Option ℕ → Option ℕ → ℕ → Type 0
 HeadStays old new now = (new ≡ old) ⊎ ((old ≡ None) × (new ≡ Some now))
 
--- So it is within one connection: when that was begun, and when its head came, stays. No other one is
--- begun.
+-- Within one connection, when that was begun, and when its head came, stays. No other one is begun.
 pub record HeedsTime (old new : Source) (now after : ℕ) : Type 0 where
   pub keeps : KeepsTimes old new now after
   pub away : old.reach ≡ Away → new.reach ≡ Away
+  pub connects : (since : ℕ) → new.reach ≡ Connects since → old.reach ≡ Connects since
   pub opened : new.opened ≡ old.opened
   pub head : new.reach ≢ Away → HeadStays old.body_since new.body_since now
 

@@ -222,6 +222,7 @@ impl Source {
     /// An event came for the connection.
     pub(crate) fn wake(&mut self)
         ensures more { self.old.reach ≢ Away → self.new.has_more ≡ true }
+        ensures rests { self.old.reach ≡ Away → self.new.has_more ≡ false }
         ensures same { SameSource self.old self.new }
         ensures waits { SameWaiting self.old self.new }
         ensures heard { self.new.is_heard ≡ self.old.is_heard }

@@ -1,6 +1,6 @@
 //! The turn.
 
-ghost use Rattle.std.specs.Prelude.{◌≡◌, ◌≢◌, ◌≤◌, ◌+◌, ◌-◌, ◌^◌, ◌⊎◌, ◌↔◌, ◌&&◌, [], List, ℕ, length, max, min, None, Some, Contains, IfSome, is_none, is_some, false, true};
+ghost use Rattle.std.specs.Prelude.{◌≡◌, ◌≢◌, ◌<◌, ◌≤◌, ◌+◌, ◌-◌, ◌^◌, ◌⊎◌, ◌↔◌, ◌&&◌, [], List, ℕ, length, max, min, None, Some, Contains, IfSome, is_none, is_some, false, true};
 ghost use Rattle.feed_settings.specs.Limits.{Limits};
 ghost use Rattle.feed_node.specs.States.{NodeState};
 ghost use Rattle.feed_world.specs.Log.{Log};
@@ -74,7 +74,7 @@ pub struct Live {
 }
 
 impl Live {
-    ghost use Rattle.feed_live.specs.Relaying.{IsRelaying, IsToConnect, StillRelaying, OnlyServes};
+    ghost use Rattle.feed_live.specs.Relaying.{IsRelaying, IsToConnect, SameWaiting, StillRelaying, OnlyServes};
     ghost use Rattle.feed_live.specs.Calling.{HeedsLink};
     ghost use Rattle.feed_live.specs.Leaving.{BeginsOne, IsToLeave, is_past, newest_time, why_left};
     ghost use Rattle.feed_live.specs.Times.{AreBy, KeepsTimes, times_of};
@@ -291,9 +291,16 @@ impl Live {
             → HasBegun (L.calls devices.old.link) (L.calls devices.new.link)
             ⊎ (self.new.source.reach ≡ Away) }
 
-        // no time that it keeps of its servers is put off, and it is set to the same
+        // no time that it keeps of its servers comes to be later than now, but that of the next
+        // connection: half a minute; and it is set to the same
         ensures keeps { self.old.feeds ≡ false
             → KeepsTimes self.old.source self.new.source now now }
+
+        // where there is no connection, and none is due yet, none is begun, and that isn't put off
+        ensures pauses { self.old.feeds ≡ false → self.old.source.reach ≡ Away
+            → self.old.source.has_more ≡ false → now < self.old.source.upstream.since
+            → SameWaiting self.old.source self.new.source
+            × (L.calls devices.new.link ≡ L.calls devices.old.link) }
 
         // the connection to a server is looked at, written to or read once an event comes for it,
         // unless the server is to be left, or something waits to be said
@@ -344,9 +351,11 @@ impl Live {
         ensures serves { (sockets : AllSockets) → OnlyServes self.old self.new sockets sockets }
         ensures desk { self.new.desk ≡ self.old.desk }
         ensures saved { SameBeside self.old self.new }
-        // an event for the connection says that there may be more of it
+        // an event for the connection says that there may be more of it, where there is one
         ensures wakes { Contains events.now Ready.Link → self.old.source.reach ≢ Away
             → self.new.source.has_more ≡ true }
+        ensures rests { self.old.source.reach ≡ Away → self.old.source.has_more ≡ false
+            → self.new.source.has_more ≡ false }
         ensures waits { self.new.screens.saying ≡ self.old.screens.saying }
     {
         for event in events {
@@ -362,6 +371,8 @@ impl Live {
             × (self.new.screens ≡ self.old.screens) }
         ensures wakes { Contains events.now Ready.Link → self.old.source.reach ≢ Away
             → self.new.source.has_more ≡ true }
+        ensures rests { self.old.source.reach ≡ Away → self.old.source.has_more ≡ false
+            → self.new.source.has_more ≡ false }
     {
         if link_is_ready(events) {
             self.source.wake();
@@ -379,7 +390,7 @@ impl Live {
         match event {
             // Who waits is taken at the end of the turn.
             Ready::Listener => {}
-            // For all of them at once.
+            // `note_link` marks it.
             Ready::Link => {}
             Ready::Screen {
                 at,

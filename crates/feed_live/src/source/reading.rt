@@ -474,6 +474,7 @@ impl Source {
         ensures heard { self.new.is_heard ≡ self.old.is_heard }
         ensures epoch { self.new.epoch ≡ self.old.epoch }
         ensures serves { StillServes self.old.answers.shown.mirror.node screens.old screens.new }
+        ensures more { self.new.has_more ≡ self.old.has_more }
         ensures says { SaysAll screens.new self.new.answers.shown.mirror.node desk.now.time }
     {
         screens.relay(desk, self.answers.shown.node());

@@ -14,7 +14,7 @@ use feed_device::{Link, Report, Store};
 impl Live {
     ghost use Rattle.feed_live.specs.Relaying.{StillRelaying, OnlyServes, SameEnd, SameWaiting, IsToConnect};
     ghost use Rattle.feed_live.specs.Calling.{HeedsLink};
-    ghost use Rattle.feed_live.specs.Times.{KeepsTimes};
+    ghost use Rattle.feed_live.specs.Times.{HeedsTime, KeepsTimes};
     ghost use Rattle.feed_live.specs.Leaving.{BeginsOne, IsAtRest, IsToLeave, IsToMove, IsToStay};
     ghost use Rattle.feed_live.specs.declared.source.Reach.TheVariants.{Away};
     ghost use Rattle.feed_live.specs.Ending.{EndsWithInput};
@@ -36,6 +36,7 @@ impl Live {
         ensures saved { SameBeside self.old self.new }
         ensures desk { self.new.desk ≡ self.old.desk }
         ensures nothing { self.old.screens.saying.waits ≡ None → self.new ≡ self.old }
+        ensures more { self.new.source.has_more ≡ self.old.source.has_more }
     {
         if self.screens.says_now(self.desk.time) {
             self.source.say_more(&self.desk, &mut self.screens);
@@ -128,10 +129,10 @@ impl Live {
         ensures begins { self.old.ends_at ≡ None → IsToConnect self.old.source self.old.desk.time
             → BeginsOne (L.calls link.old) (L.calls link.new) self.old.source self.new.source
             self.old.desk.time }
-        // where there is no connection, and none is due yet, none is begun
+        // where there is no connection, and none is due yet, none is begun, and that isn't put off
         ensures pauses { self.old.source.reach ≡ Away → self.old.source.has_more ≡ false
             → self.old.desk.time < self.old.source.upstream.since
-            → L.calls link.new ≡ L.calls link.old }
+            → SameWaiting self.old.source self.new.source × (L.calls link.new ≡ L.calls link.old) }
         // one that is late or silent is left; the next one may be connected to at once
         ensures leaves { self.old.ends_at ≡ None → self.old.source.places.items ≢ []
             → IsToLeave self.old.source self.old.limits.screens.idle self.old.desk.time
@@ -148,9 +149,14 @@ impl Live {
             → IsToStay self.old.source self.old.limits.screens.idle self.old.desk.time
             → SameWaiting self.old.source self.new.source
             × (L.calls link.new ≡ L.calls link.old) }
-        // no time that is kept of servers is put off
+        // no time that is kept of servers comes to be later than now
         ensures keeps { KeepsTimes self.old.source self.new.source self.old.desk.time
             self.new.desk.time }
+        // one that is not to be left is waited for from the same times on
+        ensures holds { self.old.ends_at ≡ None → self.old.source.places.items ≢ []
+            → self.old.source.reach ≢ Away
+            → IsToStay self.old.source self.old.limits.screens.idle self.old.desk.time
+            → HeedsTime self.old.source self.new.source self.old.desk.time self.new.desk.time }
         // the connection is called, where there is more of it
         ensures heeds { self.old.ends_at ≡ None → self.old.source.places.items ≢ []
             → self.old.source.reach ≢ Away → self.old.source.has_more ≡ true
@@ -179,7 +185,7 @@ impl Live {
         ensures ends { SameEnd self.old self.new }
         ensures rests { IsAtRest self.old.source
             → (self.new.source ≡ self.old.source) × (L.calls link.new ≡ L.calls link.old) }
-        ensures keeps { KeepsTimes self.old.source self.new.source self.old.desk.time
+        ensures times { HeedsTime self.old.source self.new.source self.old.desk.time
             self.new.desk.time }
         ensures heeds { self.old.source.has_more ≡ true → self.old.screens.saying.waits ≡ None
             → HeedsLink self.old.source None (L.calls link.old) (L.calls link.new) }
@@ -196,7 +202,7 @@ impl Live {
         ensures saved { SameBeside self.old self.new }
         ensures ends { SameEnd self.old self.new }
         ensures rests { IsAtRest self.old.source → self.new.source ≡ self.old.source }
-        ensures keeps { KeepsTimes self.old.source self.new.source self.old.desk.time
+        ensures times { HeedsTime self.old.source self.new.source self.old.desk.time
             self.new.desk.time }
         ensures calls { L.calls link.new ≡ L.calls link.old }
     {

@@ -19,6 +19,7 @@ returns g c =
       awake = c.turn.ensures.awake;
       due = c.turn.ensures.due;
       keeps = c.turn.ensures.keeps;
+      pauses = λ no_feed away more before. (c.turn.ensures.pauses no_feed away more before).0;
       ends = c.turn.ensures.ends;
       takes = c.turn.ensures.takes;
       over = c.turn.ensures.over;

@@ -1,4 +1,4 @@
-use Rattle.std.proofs.Common.{◌∙◌, None, [], refl, sym, ap, subst}
+use Rattle.std.proofs.Common.{◌∙◌, None, [], arith, refl, sym, ap, subst}
 use Rattle.feed_world.specs.Log.{Log}
 use Rattle.feed_laws.specs.Laws.{IsInLog}
 use Rattle.feed_device.specs.Files.{StateFiles, IsKnown}
@@ -24,6 +24,7 @@ returns-clause-begins g c =
       feeds = c.new-live.ensures.feeds;
       limits = c.new-live.ensures.limits;
       goes_on = c.new-live.ensures.goes_on;
+      times = λ latest. c.new-live.ensures.times latest (omega arith);
       kept = λ log nodes of.
           c.new-live.ensures.kept nodes of.written.0 (ap (λ (f : StateFiles). f.written) same ∙ of.written.1)
           (subst (λ (f : StateFiles). IsKnown f.next) (sym same) of.next)

@@ -19,5 +19,6 @@ returns c =
       desk = c.note_link.ensures.beside.0 ∙ c.loop-event.invariant.desk;
       saved = beside_then c.note_link.ensures.beside.1 c.loop-event.invariant.saved;
       wakes = λ event reach. c.note_link.ensures.wakes event (λ away. reach (sym (ap (λ s. s.reach) c.loop-event.invariant.source) ∙ away));
+      rests = λ away more. c.note_link.ensures.rests (ap (λ s. s.reach) c.loop-event.invariant.source ∙ away) (ap (λ s. s.has_more) c.loop-event.invariant.source ∙ more);
       waits = ap (λ s. s.saying) c.note_link.ensures.beside.2 ∙ c.loop-event.invariant.waits;
     }

@@ -1,5 +1,5 @@
-use Rattle.std.proofs.Common.{◌≡◌, refl, sym, ap, subst, ◌∙◌, ◌++◌}
-use Rattle.std.specs.Prelude.{◌⊎◌, Contains, is_some, true, None}
+use Rattle.std.proofs.Common.{◌≡◌, ◌<◌, refl, sym, ap, subst, ◌∙◌, ◌++◌}
+use Rattle.std.specs.Prelude.{◌⊎◌, Contains, is_some, true, false, None}
 use Rattle.feed_files.specs.Saved.{KeepsFiles}
 use Rattle.feed_live.specs.Ending.{SameBeside, SameSaved}
 use Rattle.feed_files.specs.Input.{StopsInput}
@@ -8,7 +8,7 @@ use Rattle.feed_live.specs.Relaying.{IsToConnect, SameSource, SameWaiting}
 use Rattle.feed_live.specs.Leaving.{IsToLeave, IsToStay}
 use Rattle.feed_live.proofs.TimesLemmas.{keeps_turn, heeds_link_same, stays_awake}
 use Rattle.feed_screens.proofs.ServingLemmas.{serving_noted}
-use Rattle.feed_live.proofs.TurnLemmas.{beside_then, serves_then, screens_only, relays_on, takes_only, takes_still, asked_then, goes_with, to_connect_same, left_same, begins_same, away_still}
+use Rattle.feed_live.proofs.TurnLemmas.{waiting_then, beside_then, serves_then, screens_only, relays_on, takes_only, takes_still, asked_then, goes_with, to_connect_same, left_same, begins_same, away_still}
 use Rattle.feed_screens.proofs.OwedLemmas.{owes_what_is_kept}
 use Rattle.feed_live.proofs.turn.Live.turn.Goals as goal
 
@@ -82,6 +82,14 @@ returns g c =
           let apart = c.take_input.ensures.apart (said.feeds ∙ no_feed) in
           let time = apart.1 ∙ ap (λ d. d.time) (c.say_more.ensures.desk ∙ c.note.ensures.desk ∙ c.begin.ensures) in
           keeps_turn said.waiting apart.0 c.follow.ensures.keeps served.waiting time;
+      pauses = λ no_feed away more before.
+          let apart = c.take_input.ensures.apart (said.feeds ∙ no_feed) in
+          let time = apart.1 ∙ ap (λ d. d.time) (c.say_more.ensures.desk ∙ c.note.ensures.desk ∙ c.begin.ensures) in
+          let waiting = subst (λ s. SameWaiting c.args.self.now.source s) (sym apart.0) said.waiting in
+          let rests : c.take_input.new.self.source.has_more ≡ false = ap (λ s. s.has_more) apart.0 ∙ c.say_more.ensures.more ∙ c.note.ensures.rests away more in
+          let paused = c.follow.ensures.pauses (waiting.reach ∙ away) rests
+          (subst (λ t. t < c.take_input.new.self.source.upstream.since) (sym time) (subst (λ u. c.args.now < u.since) (sym waiting.upstream) before)) in
+          (waiting_then served.waiting (waiting_then paused.0 waiting), paused.1);
       heeds = λ no_feed goes_on some reach event left newest waits.
           let apart = c.take_input.ensures.apart (said.feeds ∙ no_feed) in
           let time = apart.1 ∙ ap (λ d. d.time) (c.say_more.ensures.desk ∙ c.note.ensures.desk ∙ c.begin.ensures) in
