@@ -1,5 +1,6 @@
 -- How often devices are called, where that is counted: so a contract can say that one is.
-use Rattle.std.specs.Prelude.{◌≡◌, ◌≢◌, ℕ, suc, ◌+◌, Option, None, option_map}
+use Rattle.std.specs.Prelude.{◌≡◌, ◌≢◌, ℕ, suc, ◌+◌, Bool, List, ◌∷◌, ◌++◌, Option, None, option_map, Result}
+use Rattle.feed_device.specs.declared.device.Stop.{Stop}
 
 -- once more
 abbrev pub CalledOnce : Option ℕ → Option ℕ → Type 0
@@ -25,13 +26,31 @@ NotCalled old new = (at : ℕ) → new at ≡ old at
 abbrev pub OthersNotCalled : AllCalls → AllCalls → ℕ → Type 0
 OthersNotCalled old new at = (other : ℕ) → other ≢ at → new other ≡ old other
 
--- How often a connection to a server was begun, looked at, read from and offered bytes, each where
--- that is counted.
+-- What a device answered each time that it was called, the latest first, where that is known.
+abbrev pub Answers : Type 0 → Type 0
+Answers A = Option (List (Result A Stop))
+
+-- it was called once more, and answered this
+abbrev pub HasAnswered : {A : Type 0} → Result A Stop → Answers A → Answers A → Type 0
+HasAnswered answer old new = new ≡ option_map (λ all. answer ∷ all) old
+
+-- it was not called, or several times
+abbrev pub AnsweredSince : {A : Type 0} → Answers A → Answers A → Type 0
+AnsweredSince {A} old new =
+    (more : List (Result A Stop)) × (new ≡ option_map (λ all. more ++ all) old)
+
+-- it was called at least once
+abbrev pub AnsweredAtLeastOnce : {A : Type 0} → Answers A → Answers A → Type 0
+AnsweredAtLeastOnce {A} old new = (answer : Result A Stop) × (more : List (Result A Stop))
+    × (new ≡ option_map (λ all. (answer ∷ more) ++ all) old)
+
+-- How often a connection to a server was begun, and what the device answered where it was looked at,
+-- whether it is open, where it was read, and where it was offered bytes.
 pub record LinkCalls : Type 0 where
   pub begun : Option ℕ
-  pub looked : Option ℕ
-  pub read : Option ℕ
-  pub written : Option ℕ
+  pub looked : Answers Bool
+  pub read : Answers ℕ
+  pub written : Answers ℕ
 
 abbrev pub uncounted : LinkCalls
 uncounted = record { begun = None; looked = None; read = None; written = None }
@@ -44,22 +63,22 @@ pub record HasBegun (old new : LinkCalls) : Type 0 where
   pub written : new.written ≡ old.written
 
 -- it was looked at, whether it is open
-pub record HasLooked (old new : LinkCalls) : Type 0 where
+pub record HasLooked (answer : Result Bool Stop) (old new : LinkCalls) : Type 0 where
   pub begun : new.begun ≡ old.begun
-  pub looked : CalledOnce old.looked new.looked
+  pub looked : HasAnswered answer old.looked new.looked
   pub read : new.read ≡ old.read
   pub written : new.written ≡ old.written
 
 -- it was read from
-pub record HasRead (old new : LinkCalls) : Type 0 where
+pub record HasRead (answer : Result ℕ Stop) (old new : LinkCalls) : Type 0 where
   pub begun : new.begun ≡ old.begun
   pub looked : new.looked ≡ old.looked
-  pub read : CalledOnce old.read new.read
+  pub read : HasAnswered answer old.read new.read
   pub written : new.written ≡ old.written
 
 -- it was offered bytes
-pub record HasWritten (old new : LinkCalls) : Type 0 where
+pub record HasWritten (answer : Result ℕ Stop) (old new : LinkCalls) : Type 0 where
   pub begun : new.begun ≡ old.begun
   pub looked : new.looked ≡ old.looked
   pub read : new.read ≡ old.read
-  pub written : CalledOnce old.written new.written
+  pub written : HasAnswered answer old.written new.written

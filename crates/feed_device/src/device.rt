@@ -69,6 +69,7 @@ pub trait Sockets {
 
     /// Writes some of the bytes, from the first on, and answers how many.
     fn write(&mut self, at: usize, bytes: &[u8]) -> Result<usize, Stop>
+        requires { bytes.now ≢ [] }
         ensures bound { IfOk result (λ n. n ≤ length bytes.now) }
         ensures bytes { IsWrite (socket self.old at) (socket self.new at) result bytes.now }
         ensures others { OtherSockets (socket self.old) (socket self.new) at }
@@ -99,7 +100,8 @@ pub trait Link {
     // What went over each connection so far, the latest first, where that is known.
     ghost exchanges: { Self → Option (List Exchange) } = { λ _. None };
 
-    // How often each thing was done with it, also where that failed, where that is counted.
+    // How often a connection was begun, also where that failed, and what each other call answered,
+    // where that is known.
     ghost calls: { Self → LinkCalls } = { λ _. uncounted };
 
     /// Begins to connect to the server of this number. One that was open is closed. An error says
@@ -117,7 +119,7 @@ pub trait Link {
     /// is, or fails.
     fn is_open(&mut self) -> Result<bool, Stop>
         ensures unchanged { exchanges self.new ≡ exchanges self.old }
-        ensures calls { HasLooked (calls self.old) (calls self.new) };
+        ensures calls { HasLooked result (calls self.old) (calls self.new) };
 
     /// Reads some bytes to the start of `buf`, and answers how many: none where no more come.
     fn read(&mut self, buf: &mut [u8]) -> Result<usize, Stop>
@@ -125,13 +127,14 @@ pub trait Link {
         ensures same { length buf.new ≡ length buf.old }
         ensures bound { IfOk result (λ n. n ≤ length buf.new) }
         ensures bytes { Receives (exchanges self.old) (exchanges self.new) result buf.new }
-        ensures calls { HasRead (calls self.old) (calls self.new) };
+        ensures calls { HasRead result (calls self.old) (calls self.new) };
 
     /// Writes some of the bytes, from the first on, and answers how many.
     fn write(&mut self, bytes: &[u8]) -> Result<usize, Stop>
+        requires { bytes.now ≢ [] }
         ensures bound { IfOk result (λ n. n ≤ length bytes.now) }
         ensures bytes { WritesSome (exchanges self.old) (exchanges self.new) result bytes.now }
-        ensures calls { HasWritten (calls self.old) (calls self.new) };
+        ensures calls { HasWritten result (calls self.old) (calls self.new) };
 
     /// Closes the connection, where there is one.
     fn close(&mut self)
