@@ -4,3 +4,7 @@ pub mod OwedLemmas
 pub mod PendingLemmas
 pub mod ServingLemmas
 pub mod OfferLemmas
+pub mod InputLemmas
+pub mod ShutLemmas
+pub mod NotedLemmas
+pub mod GettingLemmas

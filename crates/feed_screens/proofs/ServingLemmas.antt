@@ -570,7 +570,7 @@ serving_further {nodes} {contest} hub conns sockets at bytes not_asked serves =
     serves.serving
 
 -- a read that gave no bytes changed nothing
-came_nothing : (socket : Option Socket) → on_current (came_to []) socket ≡ socket
+pub came_nothing : (socket : Option Socket) → on_current (came_to []) socket ≡ socket
 came_nothing None = refl
 came_nothing (Some known) = ap (λ c. Some (record { former = known.former; current = c })) (by known.current)
   where

@@ -1,5 +1,6 @@
 -- Requests wait until a server was heard.
 use Rattle.std.specs.Prelude.{◌≡◌, ℕ, ◌+◌, ◌-◌, ◌≤◌, ◌^◌, min, Bool, true, false, nat_le, Option, Some, None, if◌then◌else◌}
+use Rattle.slab.specs.Slab.{Slab, get}
 use Rattle.feed_screens.specs.declared.conn.Conn.{Conn}
 use Rattle.feed_screens.specs.declared.conn.Phase.{Phase}
 use Rattle.feed_screens.specs.declared.conn.Phase.TheVariants.{Asks, Watches, Lingers}
@@ -28,12 +29,25 @@ Waits None held hold now = ⊥
 Waits (Some conn) held hold now =
     (conn.phase ≡ Asks) × (IsAnswering held hold conn.since now → ⊥)
 
--- There is something to be read of this connection now: an event or a full read said so, and its
--- request is answered where it is one.
+-- There is something to be read of this connection now: an event said so, and no read has found
+-- nothing since; and its request is answered where it is one.
 abbrev pub IsToBeRead : Option Conn → Bool → ℕ → ℕ → Type 0
 IsToBeRead None held hold now = ⊥
 IsToBeRead (Some conn) held hold now =
     (conn.has_input ≡ true) × (conn.phase ≡ Asks → IsAnswering held hold conn.since now)
+
+-- The connection is over; or what says whether it is to be read stays, and its request comes only
+-- where it did before.
+abbrev pub KeepsInput : Option Conn → Option Conn → Type 0
+KeepsInput old None = Unit {0}
+KeepsInput None (Some new) = ⊥
+KeepsInput (Some old) (Some new) =
+    (new.has_input ≡ old.has_input) × (new.since ≡ old.since)
+    × (new.phase ≡ Asks → old.phase ≡ Asks)
+
+-- so it is with each connection
+abbrev pub AllKeepInput : Slab Conn → Slab Conn → Type 0
+AllKeepInput old new = (at : ℕ) → KeepsInput (get old at) (get new at)
 
 -- an event came for it: there may be more to read, or to write, or both
 abbrev pub woken : Bool → Bool → Conn → Conn

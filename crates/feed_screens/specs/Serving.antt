@@ -1,6 +1,6 @@
 -- THE PROMISE, up to each socket: what is written to it is what the hub counts at the key of its
 -- connection, and so a prefix of what is due to the answer that one of the nodes gave.
-use Rattle.std.specs.Prelude.{◌≡◌, ◌≢◌, ℕ, zero, suc, ◌<◌, ◌≤◌, ◌+◌, ◌-◌, ◌^◌, min, List, [], ◌++◌, take, drop, Option, Some, None, Bool, true, false, Result, MatchResult, Contains, IfSome, ◌⊎◌}
+use Rattle.std.specs.Prelude.{◌≡◌, ◌≢◌, ℕ, zero, suc, ◌<◌, ◌≤◌, ◌+◌, ◌-◌, ◌^◌, min, List, [], ◌++◌, length, take, drop, Option, Some, None, Bool, true, false, Result, MatchResult, Contains, IfSome, ◌⊎◌}
 use Rattle.std.specs.List.{AllByRecursion}
 use Rattle.slab.specs.Slab.{Slab, get}
 use Rattle.feed_settings.specs.declared.framing.Framing.{Framing}
@@ -15,7 +15,8 @@ use Rattle.feed_hub.specs.declared.screen.Way.TheVariants.{CatchesUp, OnLog, Sto
 use Rattle.feed_hub.specs.declared.seats.Seat.{Seat}
 use Rattle.feed_hub.specs.declared.seats.Seat.TheVariants.{Asks, Watches}
 use Rattle.feed_hub.specs.declared.screen.Refill.{Refill}
-use Rattle.feed_hub.specs.Hub.{IsSeated, ChangesOnly, Refills}
+use Rattle.feed_hub.specs.Hub.{IsSeated, ChangesOnly, Refills, prefix_at}
+use Rattle.feed_hub.specs.Steps.{taken}
 use Rattle.feed_hub.specs.Backlog.{Backlog}
 use Rattle.feed_hub.specs.Screen.{IsServed}
 use Rattle.feed_hub.specs.Seats.{seat_at, IsOverSeat, Watched}
@@ -273,6 +274,27 @@ pub record IsAtEnd (hub : Hub) (node : NodeState) (now : ℕ) (key : Key) : Type
   pub next : GetsNext hub node has_room now key seat
   pub over : IsOverSeat seat
 
+-- the screen with this key took all that was pending for it
+pub record TookAll (old new : Hub) (now : ℕ) (key : Key) : Type 0 where
+  pub took : Watched (λ s t. t ≡ taken (length (prefix_at old key)) now s)
+      (seat_at old.seats.slab key) (seat_at new.seats.slab key)
+  pub rest : ChangesOnly old new key
+
+-- once it took that, it is at its end
+pub record IsAtEndThen (hub : Hub) (node : NodeState) (now : ℕ) (key : Key) : Type 0 where
+  pub left : Hub
+  pub took : TookAll hub left now key
+  pub end : IsAtEnd left node now key
+
+-- it is at its end; or it is, once it took what was pending for it, or what came next
+pub data ReachesEnd (hub : Hub) (node : NodeState) (now : ℕ) (key : Key) : Type 0 where
+  at_once : IsAtEnd hub node now key → ReachesEnd hub node now key
+  pending : IsAtEndThen hub node now key → ReachesEnd hub node now key
+  next : (has_room : Bool) (got : Hub)
+      → GetsNext hub node has_room now key (seat_at got.seats.slab key)
+      → got.broadcast ≡ hub.broadcast → IsAtEndThen got node now key
+      → ReachesEnd hub node now key
+
 -- ---- what was said
 
 -- what was said to all is as far as what the node publishes, or the rest is said within a second
@@ -284,6 +306,13 @@ SaysAll screens node now =
 -- so long at most, where it waits
 abbrev pub WaitsBriefly : Option ℕ → ℕ → Type 0
 WaitsBriefly waits now = IfSome waits (λ at. at ≤ now + 1000)
+
+-- Where something was said to all, or all were ended, all are to be written to; and still are where
+-- they were. Where the log is at no token nothing is said: it begins at one.
+pub record MakesDue (old new : Screens) : Type 0 where
+  pub said : (old.hub.broadcast.told ≡ None)
+      ⊎ ((new.hub.broadcast.told ≡ old.hub.broadcast.told) ⊎ (new.saying.is_due ≡ true))
+  pub still : old.saying.is_due ≡ true → new.saying.is_due ≡ true
 
 -- when a line feed is due after silence
 abbrev pub idles_at : Screens → ℕ

@@ -10,6 +10,7 @@ use Rattle.feed_hub.specs.Frames.{is_since}
 use Rattle.feed_hub.specs.Hub.{HoldsAt, TellsTextAt}
 use Rattle.feed_hub.specs.Seats.{seat_at, IsAskingSeat}
 use Rattle.feed_screens.specs.declared.conn.Conn.{Conn}
+use Rattle.feed_screens.specs.declared.conn.Phase.TheVariants.{Watches}
 use Rattle.feed_screens.specs.declared.conn.Wait.{Wait}
 use Rattle.feed_screens.specs.declared.conn.Wanted.{Wanted}
 use Rattle.feed_screens.specs.declared.conn.Wanted.TheVariants.{Answer, Commit}
@@ -58,9 +59,9 @@ WantsAnswer None = ⊥
 WantsAnswer (Some wait) = wait.wanted ≡ Answer
 
 -- so it is with the connection
-abbrev pub HasAsked : Option Conn → Type 0
-HasAsked None = ⊥
-HasAsked (Some conn) = WantsAnswer conn.wait
+abbrev pub AnswerWaits : Option Conn → Type 0
+AnswerWaits None = ⊥
+AnswerWaits (Some conn) = WantsAnswer conn.wait
 
 -- the commit that it has no room for: how many bytes it has, and how many long ones had been made
 abbrev pub commit_of : Wanted → Option (ℕ × ℕ)
@@ -99,6 +100,18 @@ waiting_for wanted now conn =
       wait = Some (record { since = waits_since conn.wait now; wanted = wanted });
     }
 
+-- it has yet to take a text of so many bytes, from now on
+abbrev pub owing : ℕ → ℕ → Conn → Conn
+owing length now conn = record conn { owes = length; owed_since = now; took = 0 }
+
+-- it has none to take
+abbrev pub owing_nothing : Conn → Conn
+owing_nothing conn = record conn { owes = 0 }
+
+-- its request was answered so: it waits for room no more
+abbrev pub answered : ℕ → Conn → Conn
+answered status conn = record conn { phase = Watches; wait = None; status = status }
+
 -- the connection waits for room since a time, and its socket may take something
 abbrev pub WaitsSince : Option Conn → ℕ → Type 0
 WaitsSince None since = ⊥
@@ -126,20 +139,21 @@ pub record IsNext (conns : Slab Conn) (at : ℕ) : Type 0 where
 abbrev pub IsAnotherNext : Slab Conn → ℕ → Type 0
 IsAnotherNext conns at = (other : ℕ) × (other ≢ at) × IsNext conns other
 
--- a text has to be made for the request that these bytes end, for which there is no room, or another
--- one is next
+-- a text has to be made for the request that these bytes end, for which there is no room, or
+-- another one is next
 unfoldable pub LacksRoom : Screens → Answering → List ℕ → Keyed → List ℕ → Type 0
 LacksRoom screens answering contest keyed piece =
     TellsTextAt screens.hub.broadcast contest answering.mirror.node answering.framing
     answering.opening piece (seat_at screens.hub.seats.slab keyed.key) true
     × (HasRoom screens → IsAnotherNext screens.conns keyed.at)
 
--- it waits for a commit that perhaps another screen has by now, and its socket may take that
+-- a commit of so many bytes was made since so many long ones had been made
 abbrev pub WasMade : Hub → Option (ℕ × ℕ) → Type 0
 WasMade hub None = ⊥
 WasMade hub (Some (length, made)) =
     list_any (is_since made length) hub.frames.kept.items ≡ true
 
+-- it waits for a commit that perhaps another screen has by now, and its socket may take that
 abbrev pub MayShare : Hub → Option Conn → Type 0
 MayShare hub None = ⊥
 MayShare hub (Some conn) = (conn.is_blocked ≡ false) × WasMade hub (wanted_commit conn.wait)
@@ -197,6 +211,17 @@ pub record SameToDo (old new : Screens) : Type 0 where
   pub made : new.made ≡ old.made
   pub conns : new.conns ≡ old.conns
   pub pending : new.pending ≡ old.pending
+
+-- what was noted is noted still: that somebody has more to read or to write, that somebody may wait
+-- for room, and that somebody waits to be taken
+pub record StaysNoted (old new : Screens) : Type 0 where
+  pub has_more : old.has_more ≡ true → new.has_more ≡ true
+  pub is_waited : old.is_waited ≡ true → new.is_waited ≡ true
+  pub is_waited_for : old.is_waited_for ≡ true → new.is_waited_for ≡ true
+
+-- no more is made in this turn for those who catch up: 16 MiB were
+abbrev pub HasMadeMost : Screens → Type 0
+HasMadeMost screens = 16777216 ≤ screens.made
 
 -- each socket took all that it was given last
 abbrev pub AreReady : Slab Conn → Type 0

@@ -1,7 +1,7 @@
 //! One screen's connection, as the turn keeps it beside its socket.
 
 ghost use Rattle.std.specs.Prelude.{◌≡◌, ◌⊎◌, ◌↔◌, ◌+◌, ◌-◌, ◌^◌, ℕ, min, None, Some, IsTrue, IfSome};
-ghost use Rattle.feed_screens.specs.Held.{HasLingered, woken};
+ghost use Rattle.feed_screens.specs.Held.{HasLingered, KeepsInput, woken};
 ghost use Rattle.feed_screens.specs.Seating.{connected, SentEndWithKey, Lingers, lingers_from, lingers_less, HasReadAll};
 ghost use Rattle.feed_screens.specs.Waiting.{HasWaited, TakesSlowly, WantsAnswer, WaitsSince, IsFoundBy, waiting_for, wanted_commit};
 
@@ -228,6 +228,7 @@ impl Conn {
     pub(crate) fn linger(&mut self, now: u64)
         ensures key { self.new.key ≡ None }
         ensures phase { self.new.phase ≡ lingers_from now }
+        ensures input { KeepsInput (Some self.old) (Some self.new) }
     {
         self.key = None;
         self.has_more = false;
@@ -246,6 +247,7 @@ impl Conn {
         ensures key { self.new.key ≡ self.old.key }
         ensures phase { self.new.phase ≡ lingers_less count self.old.phase }
         ensures enough { IsTrue result ↔ HasReadAll count self.old.phase }
+        ensures input { KeepsInput (Some self.old) (Some self.new) }
     {
         let Phase::Lingers { until, left } = self.phase else {
             return false;

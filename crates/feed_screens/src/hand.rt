@@ -1,6 +1,6 @@
 //! The one place where a screen is sent anything of the hub's.
 
-ghost use Rattle.std.specs.Prelude.{◌≡◌, ◌≤◌, ◌++◌, List, ℕ, IfOk, OnErr, length, take};
+ghost use Rattle.std.specs.Prelude.{◌≡◌, ◌≢◌, ◌≤◌, ◌++◌, List, [], ℕ, IfOk, OnErr, length, take};
 ghost use Rattle.feed_node.specs.States.{NodeState};
 ghost use Rattle.feed_answer.specs.Answered.{AnswerParts};
 ghost use Rattle.feed_hub.specs.Hub.{IsSeated, ChangesOnly, prefix_at};
@@ -21,6 +21,7 @@ pub(crate) fn hand<S: Sockets>(
     key: Key,
     now: u64,
 ) -> Result<usize, Stop>
+    requires { prefix_at hub.old key ≢ [] }
     // what the socket was given is what the hub counts, at the same key
     ensures bytes { IsWrite (S.socket sockets.old at) (S.socket sockets.new at) result
         (prefix_at hub.old key) }

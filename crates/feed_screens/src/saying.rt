@@ -7,8 +7,8 @@ ghost use Rattle.feed_hub.specs.Hub.{prefix_at};
 ghost use Rattle.feed_hub.specs.Seats.{KeepsThose, IsOnTime};
 ghost use Rattle.feed_device.specs.Calls.{CalledOnce, NotCalled};
 ghost use Rattle.feed_screens.specs.Serving.{StillServesFrom, StillServes, StillStand, SameSeating};
-ghost use Rattle.feed_screens.specs.Serving.{AllEnd, IsAlone, IsWritable, SaysAll, WaitsBriefly, idles_at};
-ghost use Rattle.feed_screens.specs.Waiting.{SameToDo, AreReady, MaySay};
+ghost use Rattle.feed_screens.specs.Serving.{AllEnd, IsAlone, IsWritable, MakesDue, SaysAll, WaitsBriefly, idles_at};
+ghost use Rattle.feed_screens.specs.Waiting.{SameToDo, StaysNoted, AreReady, MaySay};
 ghost use Rattle.feed_screens.specs.Counting.{none_counted, IsReportOf};
 
 use crate::counts::Counts;
@@ -174,6 +174,8 @@ impl Screens {
         ensures most { self.new.hub.most ≡ self.old.hub.most }
         ensures waits { self.new.saying.waits ≡ self.old.saying.waits }
         ensures to_do { SameToDo self.old self.new }
+        ensures due { self.new.saying.is_due ≡ self.old.saying.is_due }
+        ensures told { self.new.hub.broadcast.told ≡ self.old.hub.broadcast.told }
     {
         if !self.saying.is_trimmed {
             self.hub.trim();
@@ -191,6 +193,8 @@ impl Screens {
         ensures news { (result ≡ false)
             ↔ (self.old.hub.broadcast.told ≡ published_token node.now.shown) }
         ensures to_do { SameToDo self.old self.new }
+        // where somebody is there, and something was said, all are to be written to
+        ensures due { slab_len self.old.conns ≢ 0 → MakesDue self.old self.new }
     {
         self.saying.waits = None;
         if self.is_at(node) {
@@ -213,6 +217,7 @@ impl Screens {
         // where somebody is there nothing is done
         ensures stays { slab_len self.old.conns ≢ 0 → self.new ≡ self.old }
         ensures to_do { SameToDo self.old self.new }
+        ensures due { self.new.saying.is_due ≡ self.old.saying.is_due }
     {
         if !self.conns.is_empty() {
             return;
@@ -228,6 +233,7 @@ impl Screens {
         ensures soon { self.old.saying.waits ≡ None
             → WaitsBriefly self.new.saying.waits desk.now.time }
         ensures to_do { SameToDo self.old self.new }
+        ensures due { MakesDue self.old self.new }
     {
         for _ in 0..node.kept().saturating_add(2) {
             if !self.say_one(desk, node) {
@@ -243,6 +249,7 @@ impl Screens {
             → SaysAll self.new node.now.shown now }
         ensures most { self.new.hub.most ≡ self.old.hub.most }
         ensures to_do { SameToDo self.old self.new }
+        ensures due { self.new.saying.is_due ≡ self.old.saying.is_due }
     {
         if self.saying.waits.is_none() && !self.is_at(node) {
             self.saying.waits = Some(now);
@@ -258,6 +265,7 @@ impl Screens {
             → WaitsBriefly self.new.saying.waits desk.now.time }
         ensures goes_on { result ≡ true → self.new.saying.waits ≡ self.old.saying.waits }
         ensures to_do { SameToDo self.old self.new }
+        ensures due { MakesDue self.old self.new }
     {
         self.saying.is_short = false;
         match self.hub.say_next(desk.alloc, node) {
@@ -285,6 +293,8 @@ impl Screens {
     fn spoke(&mut self, now: u64)
         ensures same { SameSeating self.old self.new }
         ensures spoke { self.new.saying.spoke ≡ now }
+        // all are to be written to
+        ensures due { self.new.saying.is_due ≡ true }
         ensures waits { self.new.saying.waits ≡ self.old.saying.waits }
         ensures to_do { SameToDo self.old self.new }
     {
@@ -299,6 +309,8 @@ impl Screens {
         ensures most { self.new.hub.most ≡ self.old.hub.most }
         ensures waits { self.new.saying.waits ≡ self.old.saying.waits }
         ensures to_do { SameToDo self.old self.new }
+        // all are to be written to
+        ensures due { self.new.saying.is_due ≡ true }
     {
         let (was_said, bodies) = (self.has_said(), self.following());
         // Who there was no memory for is cut.
@@ -318,6 +330,8 @@ impl Screens {
             → CalledOnce (S.offered sockets.old at) (S.offered sockets.new at) }
         ensures asks { S.asked sockets.new ≡ S.asked sockets.old }
         ensures tries { NotCalled (S.tried sockets.old) (S.tried sockets.new) }
+        ensures pauses { self.new.accept_at ≡ self.old.accept_at }
+        ensures notes { StaysNoted self.old self.new }
     {
         if !self.saying.is_due {
             return;
@@ -340,6 +354,10 @@ impl Screens {
         // once that is due, silence begins again
         ensures speaks { idles_at self.old ≤ desk.now.time → self.new.saying.spoke ≡ desk.now.time }
         ensures waits { desk.now.time < idles_at self.old → self.new ≡ self.old }
+        // and all are to be written to
+        ensures due { idles_at self.old ≤ desk.now.time → self.new.saying.is_due ≡ true }
+        ensures pauses { self.new.accept_at ≡ self.old.accept_at }
+        ensures notes { StaysNoted self.old self.new }
     {
         if desk.time < self.idles_at() {
             return;
@@ -354,6 +372,8 @@ impl Screens {
     /// Keeps the connection at a place alive, where that has a key.
     fn idle_at(&mut self, desk: &Desk, at: usize)
         ensures serving { StillStand self.old self.new }
+        ensures pauses { self.new.accept_at ≡ self.old.accept_at }
+        ensures notes { StaysNoted self.old self.new }
     {
         let Some(conn) = self.conns.get(at) else {
             return;
@@ -368,6 +388,8 @@ impl Screens {
     pub(crate) fn probe_at(&mut self, desk: &Desk, at: usize)
         ensures serving { StillStand self.old self.new }
         ensures conns { self.new.conns ≡ self.old.conns }
+        ensures pauses { self.new.accept_at ≡ self.old.accept_at }
+        ensures notes { StaysNoted self.old self.new }
     {
         let Some(conn) = self.conns.get(at) else {
             return;

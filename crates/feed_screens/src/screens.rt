@@ -128,6 +128,7 @@ pub struct Screens {
 impl Screens {
     ghost use Rattle.feed_screens.specs.Serving.{ServesScreens, StillServesAll, StillStand, SameSeating};
     ghost use Rattle.feed_screens.specs.Held.{IsPast};
+    ghost use Rattle.feed_screens.specs.Waiting.{StaysNoted};
     ghost use Rattle.feed_screens.specs.Serving.{HasNoSeat, key_at};
 
     pub fn new(alloc: Global, limits: ScreenLimits) -> Screens
@@ -210,6 +211,8 @@ impl Screens {
             ≡ owed_text_at self.old.pending.places.items other }
         ensures log { self.new.hub.broadcast ≡ self.old.hub.broadcast }
         ensures time { desk.new.time ≡ desk.old.time }
+        ensures pauses { self.new.accept_at ≡ self.old.accept_at }
+        ensures notes { StaysNoted self.old self.new }
     {
         sockets.close(at);
         self.pay(at);
@@ -233,6 +236,8 @@ impl Screens {
         ensures same { SameSeating self.old self.new }
         ensures conns { self.new.conns ≡ self.old.conns }
         ensures pending { self.new.pending ≡ self.old.pending }
+        ensures pauses { self.new.accept_at ≡ self.old.accept_at }
+        ensures notes { StaysNoted self.old self.new }
     {
         match how {
             How::Cut => {
@@ -283,6 +288,8 @@ impl Screens {
         ensures log { self.new.hub.broadcast ≡ self.old.hub.broadcast }
         ensures offers { NotCalled (S.offered sockets.old) (S.offered sockets.new) }
         ensures time { desk.new.time ≡ desk.old.time }
+        ensures pauses { self.new.accept_at ≡ self.old.accept_at }
+        ensures notes { StaysNoted self.old self.new }
     {
         for at in 0..self.conns.capacity() {
             if self.is_cut(at) {
@@ -312,6 +319,8 @@ impl Screens {
         ensures goes { (at : ℕ) → ¬ (IsPast (get self.new.conns at) desk.old.time) }
         ensures asks { S.asked sockets.new ≡ S.asked sockets.old }
         ensures tries { NotCalled (S.tried sockets.old) (S.tried sockets.new) }
+        ensures pauses { self.new.accept_at ≡ self.old.accept_at }
+        ensures notes { StaysNoted self.old self.new }
     {
         for at in 0..self.conns.capacity() {
             if self.is_past(at, desk.time) {

@@ -1,16 +1,16 @@
 //! What they ask: requests are read, heard and answered.
 
-ghost use Rattle.std.specs.Prelude.{◌≡◌, ◌≢◌, ◌↔◌, ◌≤◌, ◌-◌, ℕ, List, None, Some, Ok, Contains, length, option_map, false, IfOk, IfSome, IsTrue};
+ghost use Rattle.std.specs.Prelude.{◌≡◌, ◌≢◌, ◌⊎◌, ◌↔◌, ◌≤◌, ◌-◌, ℕ, List, None, Some, Ok, Contains, length, option_map, false, IfOk, IfSome, IsTrue};
 ghost use Rattle.slab.specs.Slab.{get};
 ghost use Rattle.feed_node.specs.States.{NodeState};
 ghost use Rattle.feed_hub.specs.Seats.{seat_at, IsAskingSeat};
 ghost use Rattle.feed_device.specs.Calls.{CalledOnce, NotCalled, OthersNotCalled};
 ghost use Rattle.feed_device.specs.Sockets.{AllSockets};
 ghost use Rattle.feed_screens.specs.Serving.{ServesScreens, StillServing, StillServesAll, StillAnswers};
-ghost use Rattle.feed_screens.specs.Serving.{ServesBut, HasKey, HearsSome, HearsAll, SameSeating, SameKeys, key_at};
+ghost use Rattle.feed_screens.specs.Serving.{ServesBut, HasKey, HearsSome, HearsAll, OtherConns, SameSeating, SameKeys, key_at};
 ghost use Rattle.feed_screens.specs.declared.conn.Phase.TheVariants.{Watches};
-ghost use Rattle.feed_screens.specs.Held.{answerer, woken, IsAt, IsToBeRead, SameMirrors, SameBesideConns, Waits};
-ghost use Rattle.feed_screens.specs.Waiting.{HasMoreAt};
+ghost use Rattle.feed_screens.specs.Held.{AllKeepInput, KeepsInput, answerer, woken, IsAt, IsToBeRead, SameMirrors, SameBesideConns, Waits};
+ghost use Rattle.feed_screens.specs.Waiting.{AnswerWaits, HasMoreAt, HasRoom, IsAnotherNext, StaysNoted, answered};
 
 use crate::conn::Phase;
 use crate::screens::{Answers, Hearing, Keyed, PIECE, Screens, Shown, TextId};
@@ -55,6 +55,12 @@ impl Screens {
         ensures tries { IsToBeRead (get self.old.conns at) shown.now.is_held shown.now.hold
             desk.old.time → CalledOnce (S.tried sockets.old at) (S.tried sockets.new at) }
         ensures untried { OthersNotCalled (S.tried sockets.old) (S.tried sockets.new) at }
+        ensures pauses { self.new.accept_at ≡ self.old.accept_at }
+        ensures others { (other : ℕ) → other ≢ at
+            → KeepsInput (get self.old.conns other) (get self.new.conns other) }
+        ensures gone { get self.old.conns at ≡ None → get self.new.conns at ≡ None }
+        ensures time { desk.new.time ≡ desk.old.time }
+        ensures notes { StaysNoted self.old self.new }
     {
         self.read(desk, sockets, answers, shown, at);
         self.drain(desk, sockets, answers.shown.node(), at);
@@ -115,6 +121,18 @@ impl Screens {
         ensures nothing { ¬ (IsToBeRead (get self.old.conns at) shown.now.is_held shown.now.hold
             desk.old.time)
             → (self.new ≡ self.old) × (sockets.new ≡ sockets.old) × (answers.new ≡ answers.old) }
+        // only where nothing came is it marked that there is nothing more to read
+        ensures marks { KeepsInput (get self.old.conns at) (get self.new.conns at)
+            ⊎ (S.socket sockets.new at ≡ S.socket sockets.old at) }
+        ensures pauses { self.new.accept_at ≡ self.old.accept_at }
+        ensures others { (other : ℕ) → other ≢ at
+            → KeepsInput (get self.old.conns other) (get self.new.conns other) }
+        ensures gone { get self.old.conns at ≡ None → get self.new.conns at ≡ None }
+        ensures time { desk.new.time ≡ desk.old.time }
+        ensures notes { StaysNoted self.old self.new }
+        // who has a seat is refused only where there is no room, or another one is next
+        ensures turns { key_at self.new.conns at ≡ Some None → HasRoom self.old
+            → (key_at self.old.conns at ≡ Some None) ⊎ IsAnotherNext self.old.conns at }
     {
         if !self.may_read(shown, at, desk.time) {
             return;
@@ -133,7 +151,10 @@ impl Screens {
 
     /// There is nothing more to read for now.
     fn is_read(&mut self, at: usize)
-        ensures { SameSeating self.old self.new }
+        ensures same { SameSeating self.old self.new }
+        ensures pauses { self.new.accept_at ≡ self.old.accept_at }
+        ensures places { OtherConns self.old.conns self.new.conns at }
+        ensures notes { StaysNoted self.old self.new }
     {
         if let Some(conn) = self.conns.get_mut(at) {
             conn.has_input = false;
@@ -149,6 +170,14 @@ impl Screens {
         // who is sent something is sent all of it
         ensures stays { IsAt (get self.old.conns at) Watches
             → key_at self.new.conns at ≡ key_at self.old.conns at }
+        // nothing is written
+        ensures still { (key_at self.new.conns at ≡ None) ⊎ (sockets.new ≡ sockets.old) }
+        ensures pauses { self.new.accept_at ≡ self.old.accept_at }
+        ensures time { desk.new.time ≡ desk.old.time }
+        ensures places { OtherConns self.old.conns self.new.conns at }
+        ensures notes { StaysNoted self.old self.new }
+        ensures keys { (key_at self.new.conns at ≡ None)
+            ⊎ (key_at self.new.conns at ≡ key_at self.old.conns at) }
     {
         self.has_ended(at, desk.time);
         if self.wants_answer(at) {
@@ -166,6 +195,9 @@ impl Screens {
         ensures same { SameSeating self.old self.new }
         ensures phase { (phase : Phase) → IsAt (get self.old.conns at) phase
             → IsAt (get self.new.conns at) phase }
+        ensures pauses { self.new.accept_at ≡ self.old.accept_at }
+        ensures places { OtherConns self.old.conns self.new.conns at }
+        ensures notes { StaysNoted self.old self.new }
     {
         if let Some(conn) = self.conns.get_mut(at) {
             conn.has_input = false;
@@ -197,6 +229,14 @@ impl Screens {
             → ServesBut nodes shown.now.contest.now self.old.hub self.old.conns sockets at piece.now
             → HearsAll nodes shown.now.contest.now self.new sockets at result }
         ensures mirrors { SameMirrors answers.old answers.new }
+        // who can't wait is turned away only where there is no room, or another one is next
+        ensures turns { result ≡ Ok Hearing.TooMuch → HasRoom self.old
+            → IsAnotherNext self.old.conns at }
+        ensures pauses { self.new.accept_at ≡ self.old.accept_at }
+        ensures places { OtherConns self.old.conns self.new.conns at }
+        ensures input { KeepsInput (get self.old.conns at) (get self.new.conns at) }
+        ensures notes { StaysNoted self.old self.new }
+        ensures keys { SameKeys self.old.conns self.new.conns }
     {
         let Some(key) = self.asking(at) else {
             if self.forget(at, piece.len()) {
@@ -223,6 +263,13 @@ impl Screens {
             → (self.new ≡ self.old) × (sockets.new ≡ sockets.old) }
         ensures asks { S.asked sockets.new ≡ S.asked sockets.old }
         ensures tries { NotCalled (S.tried sockets.old) (S.tried sockets.new) }
+        ensures pauses { self.new.accept_at ≡ self.old.accept_at }
+        ensures input { AllKeepInput self.old.conns self.new.conns }
+        ensures time { desk.new.time ≡ desk.old.time }
+        ensures notes { StaysNoted self.old self.new }
+        // only who can't wait is refused
+        ensures turns { key_at self.new.conns at ≡ Some None
+            → (key_at self.old.conns at ≡ Some None) ⊎ (heard ≡ Ok Hearing.TooMuch) }
     {
         match heard {
             Ok(Hearing::Goes) => {}
@@ -250,6 +297,16 @@ impl Screens {
             piece.now
             → HearsAll nodes shown.now.contest.now self.new sockets keyed.at result }
         ensures mirrors { SameMirrors answers.old answers.new }
+        // who can't wait is turned away only where there is no room, or another one is next
+        ensures turns { result ≡ Ok Hearing.TooMuch → HasRoom self.old
+            → IsAnotherNext self.old.conns keyed.at }
+        ensures waits { AnswerWaits (get self.new.conns keyed.at) → HasRoom self.old
+            → AnswerWaits (get self.old.conns keyed.at) ⊎ IsAnotherNext self.old.conns keyed.at }
+        ensures pauses { self.new.accept_at ≡ self.old.accept_at }
+        ensures places { OtherConns self.old.conns self.new.conns keyed.at }
+        ensures input { KeepsInput (get self.old.conns keyed.at) (get self.new.conns keyed.at) }
+        ensures notes { StaysNoted self.old self.new }
+        ensures keys { SameKeys self.old.conns self.new.conns }
     {
         let contest = shown.contest;
         if shown.is_held {
@@ -276,7 +333,11 @@ impl Screens {
 
     /// So many bytes that came are forgotten. Whether the connection is to be closed.
     fn forget(&mut self, at: usize, count: usize) -> bool
-        ensures { SameSeating self.old self.new }
+        ensures same { SameSeating self.old self.new }
+        ensures pauses { self.new.accept_at ≡ self.old.accept_at }
+        ensures places { OtherConns self.old.conns self.new.conns at }
+        ensures input { KeepsInput (get self.old.conns at) (get self.new.conns at) }
+        ensures notes { StaysNoted self.old self.new }
     {
         match self.conns.get_mut(at) {
             Some(conn) => conn.forget(count),
@@ -299,6 +360,17 @@ impl Screens {
             → ServesBut nodes contest.now self.old.hub self.old.conns sockets keyed.at piece.now
             → HearsAll nodes contest.now self.new sockets keyed.at result }
         ensures mirror { answering.new.mirror ≡ answering.old.mirror }
+        // who can't wait is turned away only where there is no room, or another one is next
+        ensures turns { result ≡ Ok Hearing.TooMuch → HasRoom self.old
+            → IsAnotherNext self.old.conns keyed.at }
+        // and only then one begins to wait
+        ensures waits { AnswerWaits (get self.new.conns keyed.at) → HasRoom self.old
+            → AnswerWaits (get self.old.conns keyed.at) ⊎ IsAnotherNext self.old.conns keyed.at }
+        ensures pauses { self.new.accept_at ≡ self.old.accept_at }
+        ensures places { OtherConns self.old.conns self.new.conns keyed.at }
+        ensures input { KeepsInput (get self.old.conns keyed.at) (get self.new.conns keyed.at) }
+        ensures notes { StaysNoted self.old self.new }
+        ensures keys { SameKeys self.old.conns self.new.conns }
     {
         let mut rest = piece;
         'parts: loop {
@@ -329,6 +401,16 @@ impl Screens {
         ensures bound { IfOk result (λ taken. taken ≤ length piece.now) }
         ensures keys { SameKeys self.old.conns self.new.conns }
         ensures mirror { answering.new.mirror ≡ answering.old.mirror }
+        // while its request comes, nothing else changes
+        ensures comes { IfOk result (λ taken. taken ≢ 0
+            → self.new ≡ record self.old { hub = self.new.hub }) }
+        // whoever didn't wait does not begin to
+        ensures waits { AnswerWaits (get self.new.conns keyed.at)
+            → AnswerWaits (get self.old.conns keyed.at) }
+        ensures pauses { self.new.accept_at ≡ self.old.accept_at }
+        ensures places { OtherConns self.old.conns self.new.conns keyed.at }
+        ensures input { KeepsInput (get self.old.conns keyed.at) (get self.new.conns keyed.at) }
+        ensures notes { StaysNoted self.old self.new }
     {
         let served = ServedAt {
             contest,
@@ -352,7 +434,12 @@ impl Screens {
     }
 
     fn is_answered(&mut self, at: usize, status: u16)
-        ensures { SameSeating self.old self.new }
+        ensures same { SameSeating self.old self.new }
+        ensures places { OtherConns self.old.conns self.new.conns at }
+        ensures here { get self.new.conns at
+            ≡ option_map (answered status) (get self.old.conns at) }
+        ensures pauses { self.new.accept_at ≡ self.old.accept_at }
+        ensures notes { StaysNoted self.old self.new }
     {
         self.totals.answer(status);
         if let Some(conn) = self.conns.get_mut(at) {
@@ -374,9 +461,17 @@ impl Screens {
             self.new (S.socket sockets.old) (S.socket sockets.new) }
         ensures mirrors { SameMirrors answers.old answers.new }
         ensures asks { S.asked sockets.new ≡ S.asked sockets.old }
+        ensures pauses { self.new.accept_at ≡ self.old.accept_at }
+        // each that is to be read is, unless it is over by then
+        ensures tries { (at : ℕ)
+            → IsToBeRead (get self.old.conns at) shown.now.is_held shown.now.hold desk.old.time
+            → CalledOnce (S.tried sockets.old at) (S.tried sockets.new at)
+            ⊎ (get self.new.conns at ≡ None) }
+        ensures notes { StaysNoted self.old self.new }
     {
+        let places = self.conns.capacity();
         self.serve_waiting(desk, sockets, answers, shown);
-        for at in 0..self.conns.capacity() {
+        for at in 0..places {
             self.go_on_at(desk, sockets, answers, shown, at);
         }
     }
@@ -398,6 +493,12 @@ impl Screens {
         ensures tries { IsToBeRead (get self.old.conns at) shown.now.is_held shown.now.hold
             desk.old.time → CalledOnce (S.tried sockets.old at) (S.tried sockets.new at) }
         ensures untried { OthersNotCalled (S.tried sockets.old) (S.tried sockets.new) at }
+        ensures pauses { self.new.accept_at ≡ self.old.accept_at }
+        ensures others { (other : ℕ) → other ≢ at
+            → KeepsInput (get self.old.conns other) (get self.new.conns other) }
+        ensures gone { get self.old.conns at ≡ None → get self.new.conns at ≡ None }
+        ensures time { desk.new.time ≡ desk.old.time }
+        ensures notes { StaysNoted self.old self.new }
     {
         if self.has_more_at(shown, at, desk.time) {
             self.serve(desk, sockets, answers, shown, at);

@@ -9,7 +9,8 @@ ghost use Rattle.feed_device.specs.Calls.{CalledOnce, CalledAtLeastOnce, NotCall
 ghost use Rattle.feed_device.specs.Sockets.{opened, former_of, IsSocket, OtherSockets};
 ghost use Rattle.feed_screens.specs.Serving.{StillServesAll, StillServingWith, StillStand, SameSeating, IsSent};
 ghost use Rattle.feed_screens.specs.Serving.{IsGreeted, HasNoSeat, key_at};
-ghost use Rattle.feed_screens.specs.Waiting.{IsAskingAt, IsSlow, HoldsUp, RefusesAt};
+ghost use Rattle.feed_screens.specs.Held.{AllKeepInput, KeepsInput};
+ghost use Rattle.feed_screens.specs.Waiting.{IsAskingAt, IsSlow, HoldsUp, RefusesAt, StaysNoted};
 ghost use Rattle.feed_screens.specs.Seating.{comes_until, HasFreeSeat, HasNewKey, HasSentEnd, IsLingering};
 
 use crate::conn::{Conn, Phase};
@@ -38,6 +39,8 @@ impl Screens {
             ⊎ (self.new.accept_at ≡ min (now + 1000) (2 ^ 64 - 1)) }
         // before that time nothing is done
         ensures pauses { now < self.old.accept_at → self.new ≡ self.old }
+        ensures notes { (self.old.has_more ≡ true → self.new.has_more ≡ true)
+            × (self.old.is_waited ≡ true → self.new.is_waited ≡ true) }
     {
         if !self.is_waited_for || now < self.accept_at {
             return;
@@ -57,6 +60,8 @@ impl Screens {
         ensures asks { result ≡ true → CalledOnce (S.asked sockets.old) (S.asked sockets.new) }
         ensures stops { result ≡ false → CalledOnce (S.asked sockets.old) (S.asked sockets.new)
             ⊎ (self.new.accept_at ≡ min (now + 1000) (2 ^ 64 - 1)) }
+        ensures notes { (self.old.has_more ≡ true → self.new.has_more ≡ true)
+            × (self.old.is_waited ≡ true → self.new.is_waited ≡ true) }
     {
         self.make_place(desk, sockets);
         match self.accept_one(desk, sockets) {
@@ -90,6 +95,7 @@ impl Screens {
             → ¬ (IsLingering (get self.old.conns at))
             → get self.new.conns at ≡ get self.old.conns at }
         ensures time { desk.new.time ≡ desk.old.time }
+        ensures notes { StaysNoted self.old self.new }
     {
         if !self.has_no_place() {
             return;
@@ -117,6 +123,8 @@ impl Screens {
     fn stick(&mut self, desk: &mut Desk, now: u64)
         ensures same { SameSeating self.old self.new }
         ensures pause { self.new.accept_at ≡ min (now + 1000) (2 ^ 64 - 1) }
+        ensures notes { (self.old.has_more ≡ true → self.new.has_more ≡ true)
+            × (self.old.is_waited ≡ true → self.new.is_waited ≡ true) }
     {
         self.accept_at = now.saturating_add(ACCEPT_PAUSE);
         if !self.is_stuck {
@@ -135,6 +143,7 @@ impl Screens {
         ensures seated { IsOk result → HasFreeSeat self.old.hub
             → HasNewKey self.old.conns self.new.conns }
         ensures time { desk.new.time ≡ desk.old.time }
+        ensures notes { StaysNoted self.old self.new }
     {
         if self.conns.reserve(1).is_err() {
             return Err(Stop::Failed);
@@ -158,6 +167,7 @@ impl Screens {
         ensures seats { (key : Key) → ¬ (HasSentEnd self.old.conns key)
             → seat_at self.new.hub.seats.slab key ≡ seat_at self.old.hub.seats.slab key }
         ensures conns { self.new.conns ≡ self.old.conns }
+        ensures notes { StaysNoted self.old self.new }
     {
         if !self.hub.is_full() {
             return;
@@ -205,6 +215,7 @@ impl Screens {
             (comes_until self.old desk.old.time)) }
         ensures others { OtherSockets (S.socket sockets.old) (S.socket sockets.new) at }
         ensures time { desk.new.time ≡ desk.old.time }
+        ensures notes { StaysNoted self.old self.new }
     {
         self.counts.came = self.counts.came.saturating_add(1);
         let mut conn = Conn::new(peer, desk.time);
@@ -235,6 +246,8 @@ impl Screens {
         ensures hub { self.new.hub ≡ self.old.hub }
         ensures conns { self.new.conns ≡ self.old.conns }
         ensures time { desk.new.time ≡ desk.old.time }
+        ensures pauses { self.new.accept_at ≡ self.old.accept_at }
+        ensures notes { StaysNoted self.old self.new }
     {
         let _ = sockets.write(at, FULL);
         sockets.shut(at);
@@ -253,6 +266,10 @@ impl Screens {
             (S.socket sockets.old) (S.socket sockets.new) }
         ensures asks { S.asked sockets.new ≡ S.asked sockets.old }
         ensures tries { NotCalled (S.tried sockets.old) (S.tried sockets.new) }
+        ensures pauses { self.new.accept_at ≡ self.old.accept_at }
+        ensures input { AllKeepInput self.old.conns self.new.conns }
+        ensures time { desk.new.time ≡ desk.old.time }
+        ensures notes { StaysNoted self.old self.new }
     {
         self.refuse_at(desk, sockets, at);
         self.cut_slow(desk, sockets);
@@ -272,6 +289,9 @@ impl Screens {
         ensures time { desk.new.time ≡ desk.old.time }
         ensures asks { S.asked sockets.new ≡ S.asked sockets.old }
         ensures tries { NotCalled (S.tried sockets.old) (S.tried sockets.new) }
+        ensures pauses { self.new.accept_at ≡ self.old.accept_at }
+        ensures input { KeepsInput (get self.old.conns at) (get self.new.conns at) }
+        ensures notes { StaysNoted self.old self.new }
     {
         let Some(key) = self.asking(at) else {
             return;
@@ -293,6 +313,10 @@ impl Screens {
         ensures time { desk.new.time ≡ desk.old.time }
         ensures asks { S.asked sockets.new ≡ S.asked sockets.old }
         ensures tries { NotCalled (S.tried sockets.old) (S.tried sockets.new) }
+        ensures pauses { self.new.accept_at ≡ self.old.accept_at }
+        ensures places { (at : ℕ) → (get self.new.conns at ≡ get self.old.conns at)
+            ⊎ (get self.new.conns at ≡ None) }
+        ensures notes { StaysNoted self.old self.new }
     {
         for at in 0..self.conns.capacity() {
             if self.is_slow(at, desk.time) {
@@ -311,6 +335,7 @@ impl Screens {
         ensures stays { (key : Key) → key_at self.old.conns at ≡ Some (Some key)
             → self.new ≡ self.old }
         ensures time { desk.new.time ≡ desk.old.time }
+        ensures notes { StaysNoted self.old self.new }
     {
         if !self.lingers(at) {
             return;

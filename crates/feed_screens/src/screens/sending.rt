@@ -1,17 +1,17 @@
 //! What screens are sent: each is written to once in a turn.
 
-ghost use Rattle.std.specs.Prelude.{◌≡◌, ◌≢◌, [], ℕ, Bool, false, List, None, Some, Contains, IsTrue, IfSome, is_err};
+ghost use Rattle.std.specs.Prelude.{◌≡◌, ◌≢◌, ◌⊎◌, ◌↔◌, [], ℕ, Bool, false, true, List, None, Some, Ok, Contains, IsTrue, IfSome, is_err};
 ghost use Rattle.feed_node.specs.States.{NodeState};
 ghost use Rattle.feed_hub.specs.Hub.{prefix_at};
 ghost use Rattle.feed_hub.specs.Seats.{seat_at};
 ghost use Rattle.feed_device.specs.Calls.{CalledOnce, NotCalled, OthersNotCalled};
 ghost use Rattle.slab.specs.Slab.{get};
 ghost use Rattle.feed_screens.specs.declared.conn.Phase.TheVariants.{Asks};
-ghost use Rattle.feed_screens.specs.Held.{IsAt};
+ghost use Rattle.feed_screens.specs.Held.{KeepsInput, IsAt};
 ghost use Rattle.feed_screens.specs.Seating.{lingers_from};
 ghost use Rattle.feed_screens.specs.Serving.{StillServing, StillServesFrom, StillServes, SameSeating};
-ghost use Rattle.feed_screens.specs.Waiting.{HasRoom, IsAnotherNext};
-ghost use Rattle.feed_screens.specs.Serving.{GetsNext, HasKey, IsAlone, IsAtEnd, OtherConns, SameKeys, LeavesSeat, IsWritable, key_at, keyless};
+ghost use Rattle.feed_screens.specs.Waiting.{HasMadeMost, HasRoom, IsAnotherNext, StaysNoted, WantsCommit};
+ghost use Rattle.feed_screens.specs.Serving.{GetsNext, HasKey, IsAlone, IsAtEnd, IsAtEndThen, ReachesEnd, TookAll, OtherConns, SameKeys, LeavesSeat, IsWritable, key_at, keyless};
 
 use crate::conn::{Phase, Wanted};
 use crate::hand::hand;
@@ -42,6 +42,9 @@ impl Screens {
         ensures places { OtherConns self.old.conns self.new.conns at }
         ensures asks { IsAt (get self.old.conns at) Asks → result ≡ None }
         ensures some { (key : Key) → IsWritable (get self.old.conns at) key → result ≡ Some key }
+        ensures pauses { self.new.accept_at ≡ self.old.accept_at }
+        ensures input { KeepsInput (get self.old.conns at) (get self.new.conns at) }
+        ensures notes { StaysNoted self.old self.new }
     {
         let conn = self.conns.get_mut(at)?;
         conn.has_more = false;
@@ -73,6 +76,14 @@ impl Screens {
         ensures log { self.new.hub.broadcast ≡ self.old.hub.broadcast }
         ensures rest { OthersNotCalled (S.offered sockets.old) (S.offered sockets.new) at }
         ensures tries { NotCalled (S.tried sockets.old) (S.tried sockets.new) }
+        // only who was sent all, and the end of it, is shut
+        ensures shuts { (key : Key) → key_at self.old.conns at ≡ Some (Some key)
+            → key_at self.new.conns at ≡ Some None
+            → ReachesEnd self.old.hub node.now.shown desk.old.time key }
+        ensures pauses { self.new.accept_at ≡ self.old.accept_at }
+        ensures input { KeepsInput (get self.old.conns at) (get self.new.conns at) }
+        ensures time { desk.new.time ≡ desk.old.time }
+        ensures notes { StaysNoted self.old self.new }
     {
         let Some(key) = self.writable(at) else {
             return;
@@ -85,6 +96,7 @@ impl Screens {
 
     /// Writes to the connection at a place what is pending there, and gets what comes next.
     fn write<S: Sockets>(&mut self, desk: &mut Desk, sockets: &mut S, node: &Node, keyed: Keyed)
+        requires { prefix_at self.old.hub keyed.key ≢ [] }
         ensures serving { (nodes : List NodeState) (contest : List ℕ)
             → Contains nodes node.now.shown → HasKey self.old.conns keyed
             → StillServing nodes contest self.old self.new
@@ -98,6 +110,14 @@ impl Screens {
         ensures log { self.new.hub.broadcast ≡ self.old.hub.broadcast }
         ensures rest { OthersNotCalled (S.offered sockets.old) (S.offered sockets.new) keyed.at }
         ensures tries { NotCalled (S.tried sockets.old) (S.tried sockets.new) }
+        // only who took all that was pending, and is at its end then, is shut
+        ensures shuts { HasKey self.old.conns keyed
+            → key_at self.new.conns keyed.at ≡ Some None
+            → IsAtEndThen self.old.hub node.now.shown desk.old.time keyed.key }
+        ensures pauses { self.new.accept_at ≡ self.old.accept_at }
+        ensures input { KeepsInput (get self.old.conns keyed.at) (get self.new.conns keyed.at) }
+        ensures time { desk.new.time ≡ desk.old.time }
+        ensures notes { StaysNoted self.old self.new }
     {
         match self.write_once(sockets, keyed, desk.time) {
             Ok(true) => {
@@ -112,6 +132,9 @@ impl Screens {
     pub(crate) fn has_more_to_write(&mut self, at: usize, has_more: bool)
         ensures same { SameSeating self.old self.new }
         ensures places { OtherConns self.old.conns self.new.conns at }
+        ensures pauses { self.new.accept_at ≡ self.old.accept_at }
+        ensures input { KeepsInput (get self.old.conns at) (get self.new.conns at) }
+        ensures notes { StaysNoted self.old self.new }
     {
         if let Some(conn) = self.conns.get_mut(at) {
             conn.has_more = conn.has_more || has_more;
@@ -119,7 +142,9 @@ impl Screens {
     }
 
     /// Whether those who catch up have to wait for the next turn.
-    fn has_made_most(&self) -> bool {
+    fn has_made_most(&self) -> bool
+        ensures { IsTrue result ↔ HasMadeMost self.now }
+    {
         self.made >= MOST_MADE
     }
 
@@ -139,6 +164,7 @@ impl Screens {
         ensures stays { IsTrue result
             → key_at self.new.conns keyed.at ≡ key_at self.old.conns keyed.at }
         ensures has { prefix_at self.old.hub keyed.key ≢ [] → IsTrue result }
+        ensures some { IsTrue result → prefix_at self.new.hub keyed.key ≢ [] }
         // only who was sent all, and the end of it, is shut
         ensures shuts { HasKey self.old.conns keyed
             → key_at self.new.conns keyed.at ≡ Some None
@@ -150,6 +176,21 @@ impl Screens {
             → seat_at self.new.hub.seats.slab key ≡ seat_at self.old.hub.seats.slab key }
         ensures log { self.new.hub.broadcast ≡ self.old.hub.broadcast }
         ensures tries { NotCalled (S.tried sockets.old) (S.tried sockets.new) }
+        // what is pending stays; where nothing was, what is now came next
+        ensures pending { prefix_at self.old.hub keyed.key ≢ [] → self.new ≡ self.old }
+        ensures next { prefix_at self.old.hub keyed.key ≡ [] → IsTrue result → (has_room : Bool)
+            × GetsNext self.old.hub node.now.shown has_room desk.old.time keyed.key
+            (seat_at self.new.hub.seats.slab keyed.key) }
+        ensures time { desk.new.time ≡ desk.old.time }
+        ensures pauses { self.new.accept_at ≡ self.old.accept_at }
+        ensures input { KeepsInput (get self.old.conns keyed.at) (get self.new.conns keyed.at) }
+        ensures notes { StaysNoted self.old self.new }
+        // who has nothing pending, and stays, has what comes next; but for who waits for a commit
+        ensures gets { HasKey self.old.conns keyed → prefix_at self.old.hub keyed.key ≡ []
+            → HasKey self.new.conns keyed → WantsCommit (get self.old.conns keyed.at)
+            ⊎ (HasMadeMost self.old ⊎ ((has_room : Bool)
+            × GetsNext self.old.hub node.now.shown has_room desk.old.time keyed.key
+            (seat_at self.new.hub.seats.slab keyed.key))) }
     {
         if !self.hub.prefix(keyed.key).is_empty() {
             return true;
@@ -188,6 +229,9 @@ impl Screens {
             × (has_room ≡ false → HasRoom self.old → IsAnotherNext self.old.conns keyed.at)
             × GetsNext self.old.hub node.now.shown has_room desk.now.time keyed.key
             (seat_at self.new.hub.seats.slab keyed.key) }
+        ensures pauses { self.new.accept_at ≡ self.old.accept_at }
+        ensures input { KeepsInput (get self.old.conns keyed.at) (get self.new.conns keyed.at) }
+        ensures notes { StaysNoted self.old self.new }
     {
         let has_room = self.may_take_room(keyed.at);
         let got = self
@@ -206,6 +250,9 @@ impl Screens {
     fn is_refilled(&mut self, keyed: Keyed, number: Option<u64>, now: u64) -> Result<(), AllocError>
         ensures same { SameSeating self.old self.new }
         ensures places { OtherConns self.old.conns self.new.conns keyed.at }
+        ensures pauses { self.new.accept_at ≡ self.old.accept_at }
+        ensures input { KeepsInput (get self.old.conns keyed.at) (get self.new.conns keyed.at) }
+        ensures notes { StaysNoted self.old self.new }
     {
         let length = self.hub.prefix(keyed.key).len();
         self.made = self.made.saturating_add(length);
@@ -221,6 +268,9 @@ impl Screens {
     fn wait_for_commit(&mut self, keyed: Keyed, length: usize, now: u64)
         ensures same { SameSeating self.old self.new }
         ensures places { OtherConns self.old.conns self.new.conns keyed.at }
+        ensures pauses { self.new.accept_at ≡ self.old.accept_at }
+        ensures input { KeepsInput (get self.old.conns keyed.at) (get self.new.conns keyed.at) }
+        ensures notes { StaysNoted self.old self.new }
     {
         self.made = self.made.saturating_add(length);
         if !self.hub.catches_up(keyed.key) {
@@ -247,6 +297,9 @@ impl Screens {
         ensures stays { HasKey self.old.conns keyed → key_at self.new.conns keyed.at ≡ Some None }
         ensures lingers { IfSome (get self.new.conns keyed.at)
             (λ conn. conn.phase ≡ lingers_from now) }
+        ensures pauses { self.new.accept_at ≡ self.old.accept_at }
+        ensures input { KeepsInput (get self.old.conns keyed.at) (get self.new.conns keyed.at) }
+        ensures notes { StaysNoted self.old self.new }
     {
         self.hub.leave(keyed.key);
         sockets.shut(keyed.at);
@@ -262,6 +315,9 @@ impl Screens {
             → get self.new.conns other ≡ get self.old.conns other }
         ensures hub { self.new.hub ≡ self.old.hub }
         ensures lingers { IfSome (get self.new.conns at) (λ conn. conn.phase ≡ lingers_from now) }
+        ensures pauses { self.new.accept_at ≡ self.old.accept_at }
+        ensures input { KeepsInput (get self.old.conns at) (get self.new.conns at) }
+        ensures notes { StaysNoted self.old self.new }
     {
         if let Some(conn) = self.conns.get_mut(at) {
             conn.linger(now);
@@ -275,6 +331,7 @@ impl Screens {
         keyed: Keyed,
         now: u64,
     ) -> Result<bool, Stop>
+        requires { prefix_at self.old.hub keyed.key ≢ [] }
         ensures serving { (nodes : List NodeState) (contest : List ℕ)
             → HasKey self.old.conns keyed
             → StillServing nodes contest self.old self.new
@@ -289,6 +346,10 @@ impl Screens {
         ensures log { self.new.hub.broadcast ≡ self.old.hub.broadcast }
         ensures rest { OthersNotCalled (S.offered sockets.old) (S.offered sockets.new) keyed.at }
         ensures tries { NotCalled (S.tried sockets.old) (S.tried sockets.new) }
+        ensures took { result ≡ Ok true → TookAll self.old.hub self.new.hub now keyed.key }
+        ensures pauses { self.new.accept_at ≡ self.old.accept_at }
+        ensures input { KeepsInput (get self.old.conns keyed.at) (get self.new.conns keyed.at) }
+        ensures notes { StaysNoted self.old self.new }
     {
         let length = self.hub.prefix(keyed.key).len();
         let count = match hand(&mut self.hub, sockets, keyed.at, keyed.key, now) {
@@ -305,6 +366,9 @@ impl Screens {
     fn is_handed(&mut self, at: usize, count: usize, is_blocked: bool)
         ensures same { SameSeating self.old self.new }
         ensures places { OtherConns self.old.conns self.new.conns at }
+        ensures pauses { self.new.accept_at ≡ self.old.accept_at }
+        ensures input { KeepsInput (get self.old.conns at) (get self.new.conns at) }
+        ensures notes { StaysNoted self.old self.new }
     {
         if let Some(conn) = self.conns.get_mut(at) {
             conn.is_blocked = is_blocked;
@@ -323,6 +387,8 @@ impl Screens {
             → CalledOnce (S.offered sockets.old at) (S.offered sockets.new at) }
         ensures asks { S.asked sockets.new ≡ S.asked sockets.old }
         ensures tries { NotCalled (S.tried sockets.old) (S.tried sockets.new) }
+        ensures pauses { self.new.accept_at ≡ self.old.accept_at }
+        ensures notes { StaysNoted self.old self.new }
     {
         for at in 0..self.conns.capacity() {
             self.drain(desk, sockets, node, at);

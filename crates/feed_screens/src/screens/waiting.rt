@@ -9,10 +9,10 @@ ghost use Rattle.feed_device.specs.Sockets.{AllSockets};
 ghost use Rattle.slab.specs.Slab.{get};
 ghost use Rattle.feed_screens.specs.Pending.{Pays, owed_text_at};
 ghost use Rattle.feed_screens.specs.Serving.{StillServesAll, StillAnswers, StillStand, SameSeating};
-ghost use Rattle.feed_screens.specs.Serving.{ServesBut, HasKey, HearsAll, OtherConns};
-ghost use Rattle.feed_screens.specs.Held.{SameMirrors};
+ghost use Rattle.feed_screens.specs.Serving.{ServesBut, HasKey, HearsAll, OtherConns, SameKeys};
+ghost use Rattle.feed_screens.specs.Held.{AllKeepInput, KeepsInput, SameMirrors};
 ghost use Rattle.feed_screens.specs.Waiting.{HasNotWaited, IsOverdue, IsSlow, HoldsUp, RefusesOne};
-ghost use Rattle.feed_screens.specs.Waiting.{HasAsked, HasRoom, IsAnotherNext, IsNext, IsFollowed, IsOverdueAt, IsTurnOf, IsWaiting, LacksRoom, MayShare, WaitsSince, WantsCommit, waiting_for};
+ghost use Rattle.feed_screens.specs.Waiting.{AnswerWaits, HasRoom, IsAnotherNext, IsNext, IsFollowed, IsOverdueAt, IsTurnOf, IsWaiting, LacksRoom, MayShare, StaysNoted, WaitsSince, owing, owing_nothing, WantsCommit, waiting_for};
 
 use crate::conn::Wanted;
 use crate::screens::{Answers, Hearing, Keyed, Screens, Shown, TextId};
@@ -36,6 +36,8 @@ impl Screens {
     /// Forgets the long texts that no screen has any more.
     pub fn tidy(&mut self)
         ensures serving { StillStand self.old self.new }
+        ensures pauses { self.new.accept_at ≡ self.old.accept_at }
+        ensures notes { StaysNoted self.old self.new }
     {
         self.hub.tidy();
     }
@@ -53,6 +55,10 @@ impl Screens {
         ensures places { OtherConns self.old.conns self.new.conns at }
         ensures counts { OnOk result (65536 ≤ length → get self.old.conns at ≢ None
             → owed_text_at self.new.pending.places.items at ≡ Some id) }
+        ensures here { get self.new.conns at
+            ≡ option_map (owing length now) (get self.old.conns at) }
+        ensures pauses { self.new.accept_at ≡ self.old.accept_at }
+        ensures notes { StaysNoted self.old self.new }
     {
         self.pay(at);
         let Some(conn) = self.conns.get_mut(at) else {
@@ -77,6 +83,10 @@ impl Screens {
         ensures owed { (other : ℕ) → other ≢ at
             → owed_text_at self.new.pending.places.items other
             ≡ owed_text_at self.old.pending.places.items other }
+        ensures here { get self.new.conns at ≡ option_map owing_nothing (get self.old.conns at) }
+        ensures pauses { self.new.accept_at ≡ self.old.accept_at }
+        ensures notes { StaysNoted self.old self.new }
+        ensures made { self.new.made ≡ self.old.made }
     {
         if let Some(conn) = self.conns.get_mut(at) {
             conn.pay();
@@ -101,6 +111,9 @@ impl Screens {
     pub(crate) fn end_wait(&mut self, at: usize)
         ensures same { SameSeating self.old self.new }
         ensures places { OtherConns self.old.conns self.new.conns at }
+        ensures pauses { self.new.accept_at ≡ self.old.accept_at }
+        ensures input { KeepsInput (get self.old.conns at) (get self.new.conns at) }
+        ensures notes { StaysNoted self.old self.new }
     {
         if let Some(conn) = self.conns.get_mut(at) {
             conn.wait = None;
@@ -114,6 +127,8 @@ impl Screens {
         ensures waited { self.new.is_waited ≡ true }
         ensures here { get self.new.conns at
             ≡ option_map (waiting_for wanted now) (get self.old.conns at) }
+        ensures pauses { self.new.accept_at ≡ self.old.accept_at }
+        ensures notes { StaysNoted self.old self.new }
     {
         self.is_waited = true;
         if let Some(conn) = self.conns.get_mut(at) {
@@ -164,6 +179,14 @@ impl Screens {
             (seat_at self.now.hub.seats.slab keyed.key)
             × ¬ (MayShare self.now.hub (get self.now.conns keyed.at)) }
         ensures commit { IsTrue result → WantsCommit (get self.now.conns keyed.at) }
+        // it waits on only where there is no room, or another one is next
+        ensures room { IsTrue result → HasRoom self.now → IsAnotherNext self.now.conns keyed.at }
+        // one that catches up, and can't share its commit, goes on only where it may take room
+        ensures goes { result ≡ false → WantsCommit (get self.now.conns keyed.at)
+            → IsWatcher (λ s. IsCatchingUp s.way) (seat_at self.now.hub.seats.slab keyed.key)
+            → ¬ (MayShare self.now.hub (get self.now.conns keyed.at))
+            → HasRoom self.now
+            × (self.now.is_waited ≡ true → IsTurnOf self.now.conns keyed.at) }
     {
         self.wants_commit(keyed.at)
             && self.hub.catches_up(keyed.key)
@@ -236,6 +259,13 @@ impl Screens {
             → IsFollowed (min (now + 60000) (2 ^ 64 - 1)) piece.now
             (seat_at self.old.hub.seats.slab keyed.key)
             (seat_at self.new.hub.seats.slab keyed.key)) }
+        // who doesn't wait didn't begin to
+        ensures rest { result ≢ Ok Hearing.Goes → self.new.conns ≡ self.old.conns }
+        ensures pauses { self.new.accept_at ≡ self.old.accept_at }
+        ensures places { OtherConns self.old.conns self.new.conns keyed.at }
+        ensures input { KeepsInput (get self.old.conns keyed.at) (get self.new.conns keyed.at) }
+        ensures notes { StaysNoted self.old self.new }
+        ensures keys { SameKeys self.old.conns self.new.conns }
     {
         let until = now.saturating_add(2 * ROOM_TIME);
         let taken = self.hub.hold(keyed.key, piece, until)?;
@@ -248,6 +278,7 @@ impl Screens {
 
     /// Serves those who wait for room, as long as there is some: first who has waited for longest.
     /// And answers those who can share the text of the snapshot by now.
+    #[tactic(auto, using(crate::proofs::InputLemmas::keeps_then, crate::proofs::InputLemmas::keeps_same))]
     pub(crate) fn serve_waiting<S: Sockets>(
         &mut self,
         desk: &mut Desk,
@@ -260,6 +291,10 @@ impl Screens {
         ensures mirrors { SameMirrors answers.old answers.new }
         ensures asks { S.asked sockets.new ≡ S.asked sockets.old }
         ensures tries { NotCalled (S.tried sockets.old) (S.tried sockets.new) }
+        ensures pauses { self.new.accept_at ≡ self.old.accept_at }
+        ensures input { AllKeepInput self.old.conns self.new.conns }
+        ensures time { desk.new.time ≡ desk.old.time }
+        ensures notes { StaysNoted self.old self.new }
     {
         self.serve_first(desk, sockets, answers, shown);
         if answers.shown.has_text() {
@@ -268,6 +303,7 @@ impl Screens {
     }
 
     /// Serves those who wait for room, one after another, as long as there is some.
+    #[tactic(auto, using(crate::proofs::InputLemmas::keeps_then, crate::proofs::InputLemmas::keeps_same))]
     fn serve_first<S: Sockets>(
         &mut self,
         desk: &mut Desk,
@@ -280,6 +316,10 @@ impl Screens {
         ensures mirrors { SameMirrors answers.old answers.new }
         ensures asks { S.asked sockets.new ≡ S.asked sockets.old }
         ensures tries { NotCalled (S.tried sockets.old) (S.tried sockets.new) }
+        ensures pauses { self.new.accept_at ≡ self.old.accept_at }
+        ensures input { AllKeepInput self.old.conns self.new.conns }
+        ensures time { desk.new.time ≡ desk.old.time }
+        ensures notes { StaysNoted self.old self.new }
     {
         for _ in 0..ANSWERS {
             let Some(at) = self.longest_waiting() else {
@@ -294,6 +334,7 @@ impl Screens {
     }
 
     /// Answers those whose requests wait for room, where they can share the text of the snapshot.
+    #[tactic(auto, using(crate::proofs::InputLemmas::keeps_then, crate::proofs::InputLemmas::keeps_same))]
     fn answer_sharing<S: Sockets>(
         &mut self,
         desk: &mut Desk,
@@ -306,6 +347,10 @@ impl Screens {
         ensures mirrors { SameMirrors answers.old answers.new }
         ensures asks { S.asked sockets.new ≡ S.asked sockets.old }
         ensures tries { NotCalled (S.tried sockets.old) (S.tried sockets.new) }
+        ensures pauses { self.new.accept_at ≡ self.old.accept_at }
+        ensures input { AllKeepInput self.old.conns self.new.conns }
+        ensures time { desk.new.time ≡ desk.old.time }
+        ensures notes { StaysNoted self.old self.new }
     {
         for at in 0..self.conns.capacity() {
             self.share_at(desk, sockets, answers, shown, at);
@@ -326,6 +371,10 @@ impl Screens {
         ensures mirrors { SameMirrors answers.old answers.new }
         ensures asks { S.asked sockets.new ≡ S.asked sockets.old }
         ensures tries { NotCalled (S.tried sockets.old) (S.tried sockets.new) }
+        ensures pauses { self.new.accept_at ≡ self.old.accept_at }
+        ensures input { AllKeepInput self.old.conns self.new.conns }
+        ensures time { desk.new.time ≡ desk.old.time }
+        ensures notes { StaysNoted self.old self.new }
     {
         if self.wants_answer(at) {
             self.serve_at(desk, sockets, answers, shown, at);
@@ -341,7 +390,7 @@ impl Screens {
 
     /// Whether the request of the connection at a place waits for room.
     pub(crate) fn wants_answer(&self, at: usize) -> bool
-        ensures { IsTrue result ↔ HasAsked (get self.now.conns at) }
+        ensures { IsTrue result ↔ AnswerWaits (get self.now.conns at) }
     {
         self.conns.get(at).is_some_and(|conn| conn.wants_answer())
     }
@@ -361,6 +410,10 @@ impl Screens {
         ensures mirrors { SameMirrors answers.old answers.new }
         ensures asks { S.asked sockets.new ≡ S.asked sockets.old }
         ensures tries { NotCalled (S.tried sockets.old) (S.tried sockets.new) }
+        ensures pauses { self.new.accept_at ≡ self.old.accept_at }
+        ensures input { AllKeepInput self.old.conns self.new.conns }
+        ensures time { desk.new.time ≡ desk.old.time }
+        ensures notes { StaysNoted self.old self.new }
     {
         self.answer_at(desk, sockets, answers, shown, at);
         self.drain(desk, sockets, answers.shown.node(), at);
@@ -381,6 +434,10 @@ impl Screens {
         ensures mirrors { SameMirrors answers.old answers.new }
         ensures asks { S.asked sockets.new ≡ S.asked sockets.old }
         ensures tries { NotCalled (S.tried sockets.old) (S.tried sockets.new) }
+        ensures pauses { self.new.accept_at ≡ self.old.accept_at }
+        ensures input { AllKeepInput self.old.conns self.new.conns }
+        ensures time { desk.new.time ≡ desk.old.time }
+        ensures notes { StaysNoted self.old self.new }
     {
         let Some(key) = self.asking(at) else {
             return;
@@ -401,12 +458,15 @@ impl Screens {
         // and of those who have nobody asks any more
         ensures goes { self.old.is_waited ≡ true
             → (at : ℕ) → ¬ (IsOverdueAt self.new at desk.old.time) }
+        ensures notes { (self.old.has_more ≡ true → self.new.has_more ≡ true)
+            × (self.old.is_waited_for ≡ true → self.new.is_waited_for ≡ true) }
         // nobody who waits is forgotten
         ensures waits { self.old.is_waited ≡ true → self.new.is_waited ≡ false
             → (at : ℕ) → ¬ (IsWaiting (get self.new.conns at)) }
         ensures time { desk.new.time ≡ desk.old.time }
         ensures asks { S.asked sockets.new ≡ S.asked sockets.old }
         ensures tries { NotCalled (S.tried sockets.old) (S.tried sockets.new) }
+        ensures pauses { self.new.accept_at ≡ self.old.accept_at }
     {
         if !self.is_waited {
             return;
@@ -430,6 +490,8 @@ impl Screens {
         ensures time { desk.new.time ≡ desk.old.time }
         ensures asks { S.asked sockets.new ≡ S.asked sockets.old }
         ensures tries { NotCalled (S.tried sockets.old) (S.tried sockets.new) }
+        ensures pauses { self.new.accept_at ≡ self.old.accept_at }
+        ensures notes { StaysNoted self.old self.new }
     {
         if self.is_overdue(at, desk.time) {
             self.refuse_at(desk, sockets, at);
@@ -449,6 +511,8 @@ impl Screens {
         ensures time { desk.new.time ≡ desk.old.time }
         ensures asks { S.asked sockets.new ≡ S.asked sockets.old }
         ensures tries { NotCalled (S.tried sockets.old) (S.tried sockets.new) }
+        ensures pauses { self.new.accept_at ≡ self.old.accept_at }
+        ensures notes { StaysNoted self.old self.new }
     {
         if self.is_waited {
             self.has_more = true;

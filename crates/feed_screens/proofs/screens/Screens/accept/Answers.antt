@@ -7,6 +7,7 @@ loop-preserved g c =
     let asked = g.S.Sockets.asked in
     record {
       serving = λ nodes contest serving. c.accept_next.ensures.serving nodes contest (c.loop.invariant.serving nodes contest serving);
+      notes = (λ is. c.accept_next.ensures.notes.0 (c.loop.invariant.notes.0 is), λ is. c.accept_next.ensures.notes.1 (c.loop.invariant.notes.1 is));
       asked = inr (called_on (asked c.sweep.new.sockets) (asked c.loop.sockets) (asked c.accept_next.new.sockets) c.loop.invariant.asked (c.accept_next.ensures.asks c.if-not-accept_next.false));
     }
 

@@ -4,6 +4,7 @@ use Rattle.feed_device.specs.Calls.{NotCalled}
 use Rattle.feed_node.specs.States.{NodeState}
 use Rattle.feed_screens.specs.Held.{IsPast}
 use Rattle.feed_screens.specs.Serving.{StillServing}
+use Rattle.feed_screens.specs.Waiting.{StaysNoted}
 use Rattle.feed_screens.proofs.screens.Screens.close_past.Given as goal
 
 abbrev pub invariant-loop-at : goal.invariant-loop-at
@@ -16,4 +17,6 @@ invariant-loop-at g l =
       tries : NotCalled (g.S.Sockets.tried l.initial.sockets) (g.S.Sockets.tried l.sockets);
       stays : (at : ℕ) → (get l.self.conns at ≡ get l.initial.self.conns at) ⊎ IsPast (get l.initial.self.conns at) l.initial.desk.time;
       gone : (at : ℕ) → at < l.at → ¬ (IsPast (get l.self.conns at) l.initial.desk.time);
+      notes : StaysNoted l.initial.self l.self;
+      pauses : l.self.accept_at ≡ l.initial.self.accept_at;
     }

@@ -3,6 +3,8 @@ use Rattle.slab.specs.Slab.{get}
 use Rattle.feed_hub.specs.Seats.{seat_at}
 use Rattle.feed_screens.specs.Serving.{ServesScreens}
 use Rattle.feed_screens.proofs.OfferLemmas.{ahead_next, offered_next, is_within}
+use Rattle.feed_screens.specs.Waiting.{StaysNoted}
+use Rattle.feed_screens.proofs.NotedLemmas.{noted_then}
 use Rattle.feed_screens.proofs.screens.Screens.drain_all.Goals as goal
 
 pub loop-at-preserved : goal.loop-at-preserved
@@ -10,6 +12,8 @@ loop-at-preserved g c =
     let offered = g.S.Sockets.offered in
     let hub : c.if-is_some_and.self.hub ≡ c.drain.new.self.hub = search rules in
     let conns : c.if-is_some_and.self.conns ≡ c.drain.new.self.conns = search rules in
+    let noted : StaysNoted c.drain.new.self c.if-is_some_and.self = search rules in
+    let accept : c.if-is_some_and.self.accept_at ≡ c.drain.new.self.accept_at = search rules in
     record {
       serving = λ nodes contest among serving.
           subst (λ h. ServesScreens nodes contest h c.if-is_some_and.self.conns (g.S.Sockets.socket c.drain.new.sockets)) (sym hub)
@@ -17,6 +21,8 @@ loop-at-preserved g c =
           (c.drain.ensures.serving nodes contest among (c.loop-at.invariant.serving nodes contest among serving)));
       asks = c.drain.ensures.asked ∙ c.loop-at.invariant.asks;
       tries = λ n. c.drain.ensures.tries n ∙ c.loop-at.invariant.tries n;
+      notes = noted_then c.args.self.now c.drain.new.self c.if-is_some_and.self (noted_then c.args.self.now c.loop-at.self c.drain.new.self c.loop-at.invariant.notes c.drain.ensures.notes) noted;
+      pauses = accept ∙ c.drain.ensures.pauses ∙ c.loop-at.invariant.pauses;
       offered = offered_next c.args.self.now c.loop-at.self (offered c.args.sockets.now) (offered c.loop-at.sockets) (offered c.drain.new.sockets) c.loop-at.at
           c.loop-at.invariant.ahead c.loop-at.invariant.offered c.drain.ensures.rest c.drain.ensures.offers;
       ahead = ahead_next c.args.self.now c.loop-at.self c.if-is_some_and.self (offered c.args.sockets.now) (offered c.loop-at.sockets) (offered c.drain.new.sockets) c.loop-at.at

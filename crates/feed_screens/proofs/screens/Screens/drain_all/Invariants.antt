@@ -3,6 +3,7 @@ use Rattle.std.specs.Prelude.{Contains}
 use Rattle.feed_device.specs.Calls.{NotCalled}
 use Rattle.feed_node.specs.States.{NodeState}
 use Rattle.feed_screens.specs.Serving.{StillServing}
+use Rattle.feed_screens.specs.Waiting.{StaysNoted}
 use Rattle.feed_screens.proofs.OfferLemmas.{HaveBeenOffered, AreAhead}
 use Rattle.feed_screens.proofs.screens.Screens.drain_all.Given as goal
 
@@ -15,4 +16,6 @@ invariant-loop-at g l =
       tries : NotCalled (g.S.Sockets.tried l.initial.sockets) (g.S.Sockets.tried l.sockets);
       offered : HaveBeenOffered l.initial.self (g.S.Sockets.offered l.initial.sockets) (g.S.Sockets.offered l.sockets) l.at;
       ahead : AreAhead l.initial.self l.self (g.S.Sockets.offered l.initial.sockets) (g.S.Sockets.offered l.sockets) l.at;
+      notes : StaysNoted l.initial.self l.self;
+      pauses : l.self.accept_at ≡ l.initial.self.accept_at;
     }

@@ -1,5 +1,6 @@
-use Rattle.std.proofs.Common.{◌∙◌}
+use Rattle.std.proofs.Common.{◌∙◌, inl}
 use Rattle.feed_screens.proofs.ServingLemmas.{serving_noted}
+use Rattle.feed_screens.proofs.GettingLemmas.{wanted_before}
 use Rattle.feed_screens.proofs.screens.Screens.fill.Goals as goal
 
 pub returns-then-is_err-clause-serving : goal.returns-then-is_err-clause-serving
@@ -31,3 +32,7 @@ returns-then-has_made_most-clause-serving g c =
 
 pub returns-then-stays_waiting-clause-serving : goal.returns-then-stays_waiting-clause-serving
 returns-then-stays_waiting-clause-serving g c = λ nodes contest among keyed serving. serving_noted c.pay.ensures.same serving
+
+pub returns-then-stays_waiting-clause-gets : goal.returns-then-stays_waiting-clause-gets
+returns-then-stays_waiting-clause-gets g c =
+    λ keyed none still. inl (wanted_before _ _ c.pay.ensures.here (c.stays_waiting.ensures.commit c.if-stays_waiting.true))

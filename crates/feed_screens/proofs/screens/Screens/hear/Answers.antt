@@ -3,6 +3,7 @@ use Rattle.std.specs.Prelude.{◌==◌, Contains}
 use Rattle.std.proofs.lemmas.Bool.Decides.{eqb_tells}
 use Rattle.std.proofs.lemmas.List.{nil_from_length}
 use Rattle.feed_screens.proofs.ServingLemmas.{hears_none}
+use Rattle.feed_screens.specs.Waiting.{HasRoom, IsAnotherNext, LacksRoom}
 use Rattle.feed_screens.proofs.screens.Screens.hear.Goals as goal
 
 none_of : (bytes : List ℕ) → (length bytes == 0) ≡ true → bytes ≡ []
@@ -17,3 +18,14 @@ returns-in-0-clause-serving c =
     λ nodes sockets among keyed serves.
     hears_none c.hear_once.new.self sockets c.args.keyed.at c.parts.rest.now c.in_ok-taken.taken c.in-0.is
     (c.in_ok-taken.ensures.serving nodes sockets (subst (λ m. Contains nodes m.node) (sym c.parts.invariant.mirror) among) (c.parts.invariant.keys c.args.keyed.at ∙ keyed) (c.parts.invariant.serving nodes sockets among keyed serves))
+
+pub returns-then-has_no_room-clause-turns : goal.returns-then-has_no_room-clause-turns
+unfolding LacksRoom
+returns-then-has_no_room-clause-turns c =
+    λ turned. subst (λ s. HasRoom s → IsAnotherNext s.conns c.args.keyed.at) c.parts.invariant.comes (c.has_no_room.ensures c.if-has_no_room.true).1
+
+pub returns-then-has_no_room-clause-waits : goal.returns-then-has_no_room-clause-waits
+unfolding LacksRoom
+returns-then-has_no_room-clause-waits c =
+    λ waits has_room.
+    inr (subst (λ s. HasRoom s → IsAnotherNext s.conns c.args.keyed.at) c.parts.invariant.comes (c.has_no_room.ensures c.if-has_no_room.true).1 has_room)

@@ -9,6 +9,7 @@ abbrev pub invariant-parts : goal.invariant-parts
 invariant-parts l =
     record {
       mirror : l.answering.mirror ≡ l.initial.answering.mirror;
+      comes : l.self ≡ record l.initial.self { hub = l.self.hub };
       keys : SameKeys l.initial.self.conns l.self.conns;
       serving : (nodes : List NodeState) (sockets : AllSockets) → Contains nodes l.initial.answering.mirror.node
           → key_at l.initial.self.conns l.keyed.at ≡ Some (Some l.keyed.key)

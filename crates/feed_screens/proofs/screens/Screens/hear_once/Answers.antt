@@ -32,7 +32,7 @@ returns-clause-serving c =
     let served = c.in_ok-heard.ensures.served nodes in
     let answered : heard.status ≢ None = λ none. let no : None ≡ Some c.in-Some.status = sym none ∙ c.in-Some.is in absurd (cc) in
     serving_noted c.owe.ensures.same
-    (serving_noted c.is_answered.ensures
+    (serving_noted c.is_answered.ensures.same
     (serving_all c.hear.new.self c.args.self.now.conns sockets c.args.keyed.at c.args.keyed.key (drop heard.taken c.args.piece.now) keyed
     (inl (is_answered c.args.contest.now c.args.self.now.hub c.hear.new.self c.args.keyed.key c.args.answering.now.mirror.node c.args.desk.now.time c.args.piece.now heard among hears served c.hear.ensures.rest.broadcast answered))
     (serving_heard c.args.self.now.hub c.hear.new.self c.args.self.now.conns sockets c.args.keyed.at c.args.keyed.key c.args.piece.now heard.taken keyed c.hear.ensures.rest
@@ -47,7 +47,7 @@ returns-in_err-owe-clause-serving c =
     let answered : heard.status ≢ None = λ none. let no : None ≡ Some c.in-Some.status = sym none ∙ c.in-Some.is in absurd (cc) in
     hears_failed c.owe.new.self sockets c.args.keyed.at c.args.piece.now _ c.from_residual-in_err-owe.result c.from_residual-in_err-owe.ensures.1
     (serving_noted c.owe.ensures.same
-    (serving_noted c.is_answered.ensures
+    (serving_noted c.is_answered.ensures.same
     (serving_all c.hear.new.self c.args.self.now.conns sockets c.args.keyed.at c.args.keyed.key (drop heard.taken c.args.piece.now) keyed
     (inl (is_answered c.args.contest.now c.args.self.now.hub c.hear.new.self c.args.keyed.key c.args.answering.now.mirror.node c.args.desk.now.time c.args.piece.now heard among hears served c.hear.ensures.rest.broadcast answered))
     (serving_heard c.args.self.now.hub c.hear.new.self c.args.self.now.conns sockets c.args.keyed.at c.args.keyed.key c.args.piece.now heard.taken keyed c.hear.ensures.rest

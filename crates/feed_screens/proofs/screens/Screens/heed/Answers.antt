@@ -1,6 +1,7 @@
 use Rattle.std.proofs.Common.{rules, ◌≡◌, subst}
 use Rattle.feed_screens.specs.declared.screens.Hearing.TheVariants.{Goes, TooMuch, Done}
 use Rattle.feed_screens.specs.Serving.{HearsAll, HearsTo}
+use Rattle.feed_screens.proofs.InputLemmas.{input_at, keeps_over, keeps_same}
 use Rattle.feed_screens.proofs.screens.Screens.heed.Goals as goal
 
 pub returns-in-Ok-Goes-clause-serving : goal.returns-in-Ok-Goes-clause-serving
@@ -31,3 +32,12 @@ returns-in-Err-clause-serving g c =
     λ nodes contest hears.
     c.end-in-Err.ensures.serving nodes contest
     (subst (HearsAll nodes contest c.args.self.now (g.S.Sockets.socket c.args.sockets.now) c.args.at) c.in-Err.is hears)
+
+pub returns-in-Ok-Goes-clause-input : goal.returns-in-Ok-Goes-clause-input
+returns-in-Ok-Goes-clause-input g c = λ other. keeps_same _
+
+pub returns-in-Ok-Done-clause-input : goal.returns-in-Ok-Done-clause-input
+returns-in-Ok-Done-clause-input g c = input_at c.args.self.now.conns c.end.new.self.conns c.args.at c.end.ensures.others (keeps_over _ _ c.end.ensures.free)
+
+pub returns-in-Err-clause-input : goal.returns-in-Err-clause-input
+returns-in-Err-clause-input g c = input_at c.args.self.now.conns c.end-in-Err.new.self.conns c.args.at c.end-in-Err.ensures.others (keeps_over _ _ c.end-in-Err.ensures.free)

@@ -1,5 +1,6 @@
 use Rattle.std.proofs.Common.{◌∙◌, arith}
 use Rattle.feed_screens.proofs.RoomLemmas.{gone_all, gone_next, refuses_next}
+use Rattle.feed_screens.proofs.NotedLemmas.{noted_then}
 use Rattle.feed_screens.proofs.screens.Screens.refuse_overdue.Goals as goal
 
 pub loop-at-preserved : goal.loop-at-preserved
@@ -9,6 +10,8 @@ loop-at-preserved g c =
       time = c.refuse_waiting.ensures.time ∙ c.loop-at.invariant.time;
       asks = c.refuse_waiting.ensures.asks ∙ c.loop-at.invariant.asks;
       tries = λ n. c.refuse_waiting.ensures.tries n ∙ c.loop-at.invariant.tries n;
+      notes = noted_then _ _ _ c.loop-at.invariant.notes c.refuse_waiting.ensures.notes;
+      pauses = c.refuse_waiting.ensures.pauses ∙ c.loop-at.invariant.pauses;
       gone = gone_next _ _ _ _ _ c.loop-at.invariant.time c.refuse_waiting.ensures.refuses c.refuse_waiting.ensures.asking c.refuse_waiting.ensures.goes c.loop-at.invariant.gone;
       refuses = refuses_next _ _ _ _ _ _ c.loop-at.invariant.time c.loop-at.invariant.refuses c.refuse_waiting.ensures.refuses;
     }

@@ -2,7 +2,7 @@ use Rattle.std.proofs.Common.{◌≡◌, ◌<◌, ℕ, List}
 use Rattle.feed_device.specs.Calls.{NotCalled}
 use Rattle.feed_node.specs.States.{NodeState}
 use Rattle.feed_screens.specs.Serving.{StillServing}
-use Rattle.feed_screens.specs.Waiting.{IsOverdueAt}
+use Rattle.feed_screens.specs.Waiting.{StaysNoted, IsOverdueAt}
 use Rattle.feed_screens.proofs.RoomLemmas.{RefusesOverdue}
 use Rattle.feed_screens.proofs.screens.Screens.refuse_overdue.Given as goal
 
@@ -16,4 +16,6 @@ invariant-loop-at g l =
       tries : NotCalled (g.S.Sockets.tried l.initial.sockets) (g.S.Sockets.tried l.sockets);
       gone : (at : ℕ) → at < l.at → ¬ (IsOverdueAt l.self at l.initial.desk.time);
       refuses : RefusesOverdue l.initial.self l.self l.initial.desk.time;
+      notes : StaysNoted l.initial.self l.self;
+      pauses : l.self.accept_at ≡ l.initial.self.accept_at;
     }

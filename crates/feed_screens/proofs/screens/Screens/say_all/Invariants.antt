@@ -2,7 +2,7 @@ use Rattle.std.proofs.Common.{◌≡◌, ℕ, List, None}
 use Rattle.std.specs.Prelude.{Contains}
 use Rattle.feed_node.specs.States.{NodeState}
 use Rattle.feed_device.specs.Sockets.{AllSockets}
-use Rattle.feed_screens.specs.Serving.{StillServing, AllEnd}
+use Rattle.feed_screens.specs.Serving.{StillServing, AllEnd, MakesDue}
 use Rattle.feed_screens.specs.Waiting.{SameToDo}
 use Rattle.feed_screens.proofs.screens.Screens.say_all.Given as goal
 
@@ -15,4 +15,5 @@ invariant-loop l =
       waits : l.initial.self.saying.waits ≡ None → l.self.saying.waits ≡ None;
       most : l.self.hub.most ≡ l.initial.self.hub.most;
       to_do : SameToDo l.initial.self l.self;
+      due : MakesDue l.initial.self l.self;
     }

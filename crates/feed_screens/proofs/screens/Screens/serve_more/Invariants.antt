@@ -3,6 +3,8 @@ use Rattle.std.specs.Prelude.{Contains}
 use Rattle.feed_node.specs.States.{NodeState}
 use Rattle.feed_screens.specs.Held.{SameMirrors}
 use Rattle.feed_screens.specs.Serving.{StillServing}
+use Rattle.feed_screens.specs.Waiting.{StaysNoted}
+use Rattle.feed_screens.proofs.InputLemmas.{ReadsBelow}
 use Rattle.feed_screens.proofs.screens.Screens.serve_more.Given as goal
 
 abbrev pub invariant-loop-at : goal.invariant-loop-at
@@ -12,4 +14,8 @@ invariant-loop-at g l =
       serving : (nodes : List NodeState) → Contains nodes l.initial.answers.shown.mirror.node → (l.shown.is_held ≡ true → Contains nodes l.initial.answers.blank.mirror.node)
           → StillServing nodes l.shown.contest.now l.initial.self l.self (g.S.Sockets.socket l.initial.sockets) (g.S.Sockets.socket l.sockets);
       asks : g.S.Sockets.asked l.sockets ≡ g.S.Sockets.asked l.initial.sockets;
+      reads : ReadsBelow l.initial.self.conns l.self.conns (g.S.Sockets.tried l.initial.sockets) (g.S.Sockets.tried l.sockets) l.shown.is_held l.shown.hold l.initial.desk.time l.at;
+      time : l.desk.time ≡ l.initial.desk.time;
+      notes : StaysNoted l.initial.self l.self;
+      pauses : l.self.accept_at ≡ l.initial.self.accept_at;
     }

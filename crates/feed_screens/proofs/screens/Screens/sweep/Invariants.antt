@@ -5,6 +5,7 @@ use Rattle.feed_node.specs.States.{NodeState}
 use Rattle.feed_hub.specs.declared.seats.Key.{Key}
 use Rattle.feed_hub.specs.Seats.{seat_at}
 use Rattle.feed_screens.specs.Serving.{StillServing, HasNoSeat}
+use Rattle.feed_screens.specs.Waiting.{StaysNoted}
 use Rattle.feed_screens.proofs.screens.Screens.sweep.Given as goal
 
 abbrev pub invariant-loop-at : goal.invariant-loop-at
@@ -21,4 +22,6 @@ invariant-loop-at g l =
       log : l.self.hub.broadcast ≡ l.initial.self.hub.broadcast;
       places : (at : ℕ) → (get l.self.conns at ≡ get l.initial.self.conns at) ⊎ (get l.self.conns at ≡ None);
       seats : (key : Key) → seat_at l.self.hub.seats.slab key ≡ seat_at l.initial.self.hub.seats.slab key;
+      notes : StaysNoted l.initial.self l.self;
+      pauses : l.self.accept_at ≡ l.initial.self.accept_at;
     }
