@@ -18,10 +18,10 @@ use Rattle.feed_live.specs.declared.turn.Turn.{Turn}
 use Rattle.feed_live.specs.Due.{IsDueInTime}
 use Rattle.feed_live.specs.Laws.{ShowsTheLog}
 use Rattle.feed_live.specs.Leaving.{LooksInTime, silent_at}
-use Rattle.feed_live.specs.Relaying.{IsRelaying, StillRelaying, SameWaiting}
+use Rattle.feed_live.specs.Relaying.{IsRelaying, RestsAway, StillRelaying, SameWaiting}
 use Rattle.feed_live.specs.Running.{InputSoFar, nothing_came, has_ended_by, came_on, came_more, HostCalls, waited_for, reported_once, Surroundings, surroundings, Moment, moment_of, node_at_moment, KeepsFilesAt, at_once, RunsFrom, IsRelayOver, IsTurn, IsSameRelay, IsRun, waited_at, calls_in, HasRun, servers_of_setup, AreUnused, AreAllFilesOfLog, BeginsAsSetUp, IsKnownHonestInput, EndsWithItsInput, TakesAllAt, EndsOrStops, TakesItsInput, KeepsToTheLog}
 use Rattle.feed_files.specs.Saved.{ArePartsOfRecords, KeepsFiles}
-use Rattle.feed_live.specs.Times.{KeepsTimes}
+use Rattle.feed_live.specs.Times.{HeedsTime, KeepsTimes}
 use Rattle.feed_live.specs.Taking.{IsTakingInput, StillTaking, bytes_in}
 use Rattle.feed_files.specs.Input.{StopsInput}
 use Rattle.feed_live.specs.Upstream.{Servers, AreKnownHonest}
@@ -107,6 +107,9 @@ cleared {old} {live} {after} {next} {time} {around} turn relaying taking same =
       says = subst (λ screens. IfSome screens.saying.waits (λ at. turn.now ≤ at → next.due ≤ at)) (sym same.screens) turn.says;
       due = still_due same turn.due;
       pauses = λ no_feed away more before. subst (λ s. SameWaiting old.live.source s) (sym same.source) (turn.pauses no_feed away more before);
+      rests = λ no_feed rest. subst RestsAway (sym same.source) (turn.rests no_feed rest);
+      holds = λ no_feed goes_on some reach stay.
+          subst (λ s. HeedsTime old.live.source s turn.now turn.now) (sym same.source) (turn.holds no_feed (sym same.ends_at ∙ goes_on) some reach stay);
       keeps = λ no_feed. subst (λ s. KeepsTimes old.live.source s turn.now turn.now) (sym same.source) (turn.keeps no_feed);
       ends = record {
         limits = same.limits ∙ turn.ends.limits;

@@ -1,14 +1,16 @@
 -- How the times that a relay keeps of its server stay.
-use Rattle.std.proofs.Common.{◌≡◌, inl, inr, refl, sym, ap, ◌∙◌, subst, ℕ, ◌+◌, ◌≤◌, arith, drop, Option, Some, None}
+use Rattle.std.proofs.Common.{◌≡◌, ◌⊎◌, inl, inr, refl, sym, ap, ◌∙◌, subst, ℕ, ◌+◌, ◌≤◌, arith, List, drop, Option, Some, None}
 use Rattle.std.specs.Prelude.{Bool, true, false, ◌&&◌, ◌||◌, not, option_map, if◌then◌else◌, is_none, nat_le, nat_eq, length, max}
 use Rattle.feed_device.specs.Calls.{LinkCalls}
 use Rattle.feed_hub.specs.Upstream.{later, has_another, asked_next}
 use Rattle.feed_live.specs.declared.source.Source.{Source}
+use Rattle.feed_live.specs.declared.source.returning.Returning.{Returning}
+use Rattle.feed_settings.specs.declared.place.Place.{Place}
 use Rattle.feed_live.specs.declared.source.Reach.{Reach}
 use Rattle.feed_live.specs.declared.source.Reach.TheVariants.{Away, Connects, Asks, Reads}
 use Rattle.feed_live.specs.Calling.{HeedsLink}
-use Rattle.feed_live.specs.Leaving.{is_past, quiet_at, quiet_since, may_be_left, why_left, newest_time, IsToStay}
-use Rattle.feed_live.specs.Relaying.{SameSource, SameWaiting, settings_of}
+use Rattle.feed_live.specs.Leaving.{is_past, quiet_at, quiet_since, quiet_time, may_be_left, why_left, newest_time, IsToMove, IsToStay}
+use Rattle.feed_live.specs.Relaying.{SameSource, SameWaiting, RestsAway, settings_of}
 use Rattle.feed_live.specs.Times.{AreBy, times_of, KeepsTimes, HeadStays, HeedsTime, SameTimes}
 use Rattle.feed_live.proofs.TurnLemmas.{why_same}
 
@@ -37,6 +39,7 @@ heeds_then {a} {b} {c} two one =
       connects = λ since at. one.connects since (two.connects since at);
       opened = two.opened ∙ one.opened;
       head = λ stays. head_then a.body_since b.body_since c.body_since one.keeps.clock (two.head stays) (one.head (λ away. stays (two.away away)));
+      rests = λ rest. two.rests (one.rests rest);
     }
 
 -- the clock stands until later, too
@@ -48,6 +51,7 @@ heeds_until same heeds =
       connects = heeds.connects;
       opened = heeds.opened;
       head = heeds.head;
+      rests = heeds.rests;
     }
 
 pub keeps_same : {a b : Source} (now : ℕ) → SameTimes a b → KeepsTimes a b now now
@@ -61,10 +65,11 @@ heeds_same now same =
       connects = λ since at. sym (ap (λ t. t.reach) same.times) ∙ at;
       opened = ap (λ t. t.opened) same.times;
       head = λ stays. inl (ap (λ t. t.head) same.times);
+      rests = same.rests;
     }
 
 pub heeds_none : (source : Source) (now : ℕ) → HeedsTime source source now now
-heeds_none source now = heeds_same now (record { set = refl; times = refl })
+heeds_none source now = heeds_same now (record { set = refl; times = refl; rests = λ rest. rest })
 
 -- The next one is asked half a minute later at most.
 pub asked_by : (place earliest count places now pause latest : ℕ) → now ≤ latest → earliest ≤ latest + 1000 → pause ≤ 30000 → asked_next place earliest count places now pause ≤ latest + 30000
@@ -76,8 +81,8 @@ asked_by place earliest count places now pause latest by early short = cases (ha
     cases false first = omega (arith, by, short)
 
 -- what is waited for is the same, and so these times
-pub same_times : {a b : Source} → SameWaiting a b → SameTimes a b
-same_times waiting =
+pub same_times : {a b : Source} → SameWaiting a b → (RestsAway a → RestsAway b) → SameTimes a b
+same_times waiting rests =
     let upstream = waiting.upstream in
     let reach = waiting.reach in
     let returning = waiting.returning in
@@ -85,21 +90,57 @@ same_times waiting =
     let head = waiting.body_since in
     let settling = waiting.settling in
     let rechecking = waiting.rechecking in
-    record { set = cc; times = cc }
+    record { set = cc; times = cc; rests = rests }
+
+-- and where as much is left to be read
+pub rests_same : (a b : Source) → b.reach ≡ a.reach → b.has_more ≡ a.has_more → RestsAway a → RestsAway b
+rests_same a b reach more rest away = more ∙ rest (sym reach ∙ away)
 
 -- over a turn
-pub keeps_turn : {a b c d e : Source} {now time after : ℕ} → SameWaiting a b → c ≡ b → KeepsTimes c d time after → SameWaiting d e → time ≡ now → KeepsTimes a e now now
+pub keeps_turn : {a b c d e : Source} {now time after : ℕ} → SameTimes a b → c ≡ b → KeepsTimes c d time after → SameTimes d e → time ≡ now → KeepsTimes a e now now
 keeps_turn {a} {b} {c} {d} {e} {now} {time} {after} before same keeps behind at =
     record {
-      set = (same_times behind).set ∙ keeps.set ∙ ap settings_of same ∙ (same_times before).set;
+      set = behind.set ∙ keeps.set ∙ ap settings_of same ∙ before.set;
       times = λ latest by are.
-          subst (AreBy latest) (sym (same_times behind).times)
+          subst (AreBy latest) (sym behind.times)
           (keeps.times latest (subst (λ t. t ≤ latest) (sym at) by)
-          (subst (λ s. AreBy latest (times_of s)) (sym same) (subst (AreBy latest) (sym (same_times before).times) are)));
+          (subst (λ s. AreBy latest (times_of s)) (sym same) (subst (AreBy latest) (sym before.times) are)));
       clock = refl;
     }
 
+-- and with what is waited for within one connection
+pub heeds_turn : {a b c d e : Source} {now time after : ℕ} → SameTimes a b → c ≡ b → HeedsTime c d time after → SameTimes d e → time ≡ now → HeedsTime a e now now
+heeds_turn {a} {b} {c} {d} {e} {now} {time} {after} before same heeds behind at =
+    let here : HeedsTime b d now after = subst (λ t. HeedsTime b d t after) at (subst (λ s. HeedsTime s d time after) same heeds) in
+    let on : HeedsTime a e now after = heeds_then (heeds_same after behind) (heeds_then here (heeds_same now before)) in
+    record {
+      keeps = record { set = on.keeps.set; times = on.keeps.times; clock = refl };
+      away = on.away;
+      connects = on.connects;
+      opened = on.opened;
+      head = on.head;
+      rests = on.rests;
+    }
+
 -- ---- an event for the connection
+
+-- how much of the request was written
+counted : Reach → ℕ
+counted Away = 0
+counted (Connects since) = 0
+counted (Asks count) = count
+counted Reads = 0
+
+-- and how much of it was not
+abbrev pub unwritten : List ℕ → Reach → ℕ
+unwritten request Away = 0
+unwritten request (Connects since) = 0
+unwritten request (Asks count) = length (drop count request)
+unwritten request Reads = 0
+
+pub asks_count : (one other : ℕ) → Asks one ≡ Asks other → one ≡ other
+unfolding counted
+asks_count one other same = ap counted same
 
 pub heeds_link_same : {a b : Source} {waits : Option ℕ} {before between after later : LinkCalls} → SameSource a b → between ≡ before → later ≡ after
     → HeedsLink b waits between after → HeedsLink a waits before later
@@ -107,7 +148,9 @@ heeds_link_same {a} {b} {waits} {before} {between} {after} {later} same calls ca
     subst (λ k. HeedsLink a waits before k) (sym calls_after)
     (subst (λ k. HeedsLink a waits k after) calls
     (record {
-      looks = λ since is. heeds.looks since (same.reach ∙ is);
+      looks = λ since is.
+          let at = heeds.looks since (same.reach ∙ is) in
+          record { answer = at.answer; looks = at.looks; asks = λ opened some. at.asks opened (λ none. some (sym same.request ∙ none)) };
       asks = λ count is some. heeds.asks count (same.reach ∙ is) (λ none. some (ap (drop count) (sym same.request) ∙ none));
       reads = λ may. heeds.reads (record { reads = same.reach ∙ may.reads; rest = same.rest ∙ may.rest; said = may.said });
     }))
@@ -131,6 +174,61 @@ newest_same {a} {b} waiting heard =
     ap (λ h. if h || is_none b.rechecking.again then None else option_map (λ since. later since 1000) b.body_since) heard
     ∙ ap (λ r. if a.is_heard || is_none r.again then None else option_map (λ since. later since 1000) b.body_since) waiting.rechecking
     ∙ ap (λ s. if a.is_heard || is_none a.rechecking.again then None else option_map (λ since. later since 1000) s) waiting.body_since
+
+-- ---- none came
+
+quiet_by : Bool → List Place → Bool → List ℕ → Returning → ℕ → Option ℕ → Reach → Option ℕ
+quiet_by fresh places more rest returning place since Reads =
+    if fresh && nat_le 2 (length places) && not more && nat_eq (length rest) 0 && not (nat_eq returning.after 0)
+    then option_map (λ from. later (max from returning.published) (quiet_time returning (nat_eq place 0) (nat_le (length places) returning.left_quiet))) since
+    else None
+quiet_by fresh places more rest returning place since Away = None
+quiet_by fresh places more rest returning place since (Connects from) = None
+quiet_by fresh places more rest returning place since (Asks count) = None
+
+quiet_is : (source : Source) (reach : Reach) → quiet_at source reach ≡ quiet_by (is_none source.coming) source.places.items source.has_more source.rest.items source.returning source.upstream.place source.body_since reach
+unfolding quiet_by
+quiet_is source Reads = refl
+quiet_is source Away = refl
+quiet_is source (Connects from) = refl
+quiet_is source (Asks count) = refl
+
+-- the same has nothing new for as long
+pub quiet_same : {a b : Source} → SameSource a b → SameWaiting a b → b.has_more ≡ a.has_more → quiet_at b b.reach ≡ quiet_at a a.reach
+quiet_same {a} {b} same waiting more =
+    quiet_is b b.reach
+    ∙ ap (λ c. quiet_by (is_none c) b.places.items b.has_more b.rest.items b.returning b.upstream.place b.body_since b.reach) same.coming
+    ∙ ap (λ s. quiet_by (is_none a.coming) s.places b.has_more b.rest.items b.returning b.upstream.place b.body_since b.reach) same.servers
+    ∙ ap (λ m. quiet_by (is_none a.coming) a.places.items m b.rest.items b.returning b.upstream.place b.body_since b.reach) more
+    ∙ ap (λ r. quiet_by (is_none a.coming) a.places.items a.has_more r b.returning b.upstream.place b.body_since b.reach) same.rest
+    ∙ ap (λ r. quiet_by (is_none a.coming) a.places.items a.has_more a.rest.items r b.upstream.place b.body_since b.reach) waiting.returning
+    ∙ ap (λ u. quiet_by (is_none a.coming) a.places.items a.has_more a.rest.items a.returning u.place b.body_since b.reach) waiting.upstream
+    ∙ ap (λ s. quiet_by (is_none a.coming) a.places.items a.has_more a.rest.items a.returning a.upstream.place s b.reach) waiting.body_since
+    ∙ ap (λ r. quiet_by (is_none a.coming) a.places.items a.has_more a.rest.items a.returning a.upstream.place a.body_since r) same.reach
+    ∙ sym (quiet_is a a.reach)
+
+pub stays_same : {a b : Source} (idle now : ℕ) → SameSource a b → SameWaiting a b → b.is_heard ≡ a.is_heard → (b.has_more ≡ a.has_more) ⊎ (b.has_more ≡ true) → IsToStay a idle now → IsToStay b idle now
+stays_same {a} {b} idle now same waiting heard (inl more) is = (
+  why_same idle now waiting ∙ is.0,
+  ap (λ t. is_past t now) (quiet_same same waiting more) ∙ is.1,
+  ap (λ t. is_past t now) (newest_same waiting heard) ∙ is.2,
+)
+stays_same {a} {b} idle now same waiting heard (inr more) is = (
+  why_same idle now waiting ∙ is.0,
+  more_is_new b b.reach now more,
+  ap (λ t. is_past t now) (newest_same waiting heard) ∙ is.2,
+)
+
+pub moves_same : {a b : Source} (idle now : ℕ) → SameSource a b → SameWaiting a b → b.is_heard ≡ a.is_heard → b.has_more ≡ a.has_more → IsToMove a idle now → IsToMove b idle now
+moves_same {a} {b} idle now same waiting heard more is = (
+  λ away. is.0 (sym same.reach ∙ away),
+  why_same idle now waiting ∙ is.1,
+  by is.2,
+)
+  where
+    by : (is_past (quiet_at a a.reach) now ≡ true) ⊎ (is_past (newest_time a) now ≡ true) → (is_past (quiet_at b b.reach) now ≡ true) ⊎ (is_past (newest_time b) now ≡ true)
+    by (inl quiet) = inl (ap (λ t. is_past t now) (quiet_same same waiting more) ∙ quiet)
+    by (inr newest) = inr (ap (λ t. is_past t now) (newest_same waiting heard) ∙ newest)
 
 -- an event came for it, and it is not to be left
 pub stays_awake : {a b : Source} (idle now : ℕ) → SameWaiting a b → b.is_heard ≡ a.is_heard → b.has_more ≡ true → why_left a idle now ≡ None → is_past (newest_time a) now ≡ false → IsToStay b idle now

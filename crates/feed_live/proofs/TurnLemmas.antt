@@ -148,7 +148,7 @@ heard_same {a} {b} same is =
 
 pub serves_none : (live : Live) (sockets : AllSockets) → OnlyServes live live sockets sockets
 serves_none live sockets =
-    record { contest = refl; ends = (refl, refl); feeds = refl; source = same_none live.source; waiting = waiting_none live.source; heard = refl; epoch = refl; serves = λ nodes shown blank serving. serving }
+    record { contest = refl; ends = (refl, refl); feeds = refl; source = same_none live.source; waiting = waiting_none live.source; heard = refl; epoch = refl; rests = λ rest. rest; serves = λ nodes shown blank serving. serving }
 
 pub serves_then : {a b c : Live} {before between after : AllSockets} → OnlyServes b c between after → OnlyServes a b before between → OnlyServes a c before after
 serves_then {a} {b} {c} {before} {between} {after} two one =
@@ -160,6 +160,7 @@ serves_then {a} {b} {c} {before} {between} {after} two one =
       waiting = waiting_then two.waiting one.waiting;
       heard = two.heard ∙ one.heard;
       epoch = two.epoch ∙ one.epoch;
+      rests = λ rest. two.rests (one.rests rest);
       serves = λ nodes shown blank serving.
           let later : StillServing nodes (string_bytes b.contest) b.screens c.screens between after =
           two.serves nodes (subst (λ m. Contains nodes m.node) (sym one.source.shown) shown) (λ none. subst (λ m. Contains nodes m.node) (sym one.source.blank) (blank (sym (heard_same one.source one.heard) ∙ none))) in
@@ -175,7 +176,7 @@ pub screens_only : (live : Live) (screens : Screens) (desk : Desk) {before after
     → ((nodes : List NodeState) → Contains nodes live.source.answers.shown.mirror.node → (has_heard live.source ≡ false → Contains nodes live.source.answers.blank.mirror.node)
     → StillServing nodes (string_bytes live.contest) live.screens screens before after)
     → OnlyServes live (record live { screens = screens; desk = desk }) before after
-screens_only live screens desk serves = record { contest = refl; ends = (refl, refl); feeds = refl; source = same_none live.source; waiting = waiting_none live.source; heard = refl; epoch = refl; serves = serves }
+screens_only live screens desk serves = record { contest = refl; ends = (refl, refl); feeds = refl; source = same_none live.source; waiting = waiting_none live.source; heard = refl; epoch = refl; rests = λ rest. rest; serves = serves }
 
 module _ (limits : Limits) (log : Log) where
   -- its feed is its input

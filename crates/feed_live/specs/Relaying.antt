@@ -244,6 +244,10 @@ pub record SameSource (old new : Source) : Type 0 where
   pub rest : new.rest.items ≡ old.rest.items
   pub opened : new.opened ≡ old.opened
 
+-- Where there is no connection, nothing of one is left to be read.
+abbrev pub RestsAway : Source → Type 0
+RestsAway source = source.reach ≡ Away → source.has_more ≡ false
+
 -- nothing changed of what a server is waited for, nor of which one is asked, and when
 pub record SameWaiting (old new : Source) : Type 0 where
   pub settling : new.settling ≡ old.settling
@@ -345,6 +349,7 @@ pub record OnlyServes (old new : Live) (before after : AllSockets) : Type 0 wher
   pub waiting : SameWaiting old.source new.source
   pub heard : new.source.is_heard ≡ old.source.is_heard
   pub epoch : new.source.epoch ≡ old.source.epoch
+  pub rests : RestsAway old.source → RestsAway new.source
   pub serves : (nodes : List NodeState) → Contains nodes old.source.answers.shown.mirror.node
       → (has_heard old.source ≡ false → Contains nodes old.source.answers.blank.mirror.node)
       → StillServing nodes (string_bytes old.contest) old.screens new.screens before after

@@ -22,12 +22,13 @@ use Rattle.feed_live.specs.declared.turn.Turn.{Turn}
 use Rattle.feed_live.specs.Due.{IsDueInTime}
 use Rattle.feed_live.specs.Ending.{EndsWithInput}
 use Rattle.feed_live.specs.Laws.{ShowsTheLog}
-use Rattle.feed_live.specs.Relaying.{IsRelaying, SameWaiting, StillRelaying}
+use Rattle.feed_live.specs.Relaying.{IsRelaying, RestsAway, SameWaiting, StillRelaying}
+use Rattle.feed_live.specs.Leaving.{IsToStay}
 use Rattle.feed_live.specs.declared.source.Reach.TheVariants.{Away}
 use Rattle.feed_files.specs.Saved.{ArePartsOfRecords, KeepsFiles}
 use Rattle.feed_live.specs.States.{states_of}
 use Rattle.feed_live.specs.Taking.{IsTakingInput, StillTaking, StopsTaking, bytes_in}
-use Rattle.feed_live.specs.Times.{AreBy, KeepsTimes, times_of}
+use Rattle.feed_live.specs.Times.{AreBy, HeedsTime, KeepsTimes, times_of}
 use Rattle.feed_files.specs.Input.{TakesInput, StopsInput}
 use Rattle.feed_live.specs.Upstream.{Servers, AreKnownHonest}
 use Rattle.feed_files.specs.Input.{IsHonestInput}
@@ -152,6 +153,12 @@ pub record IsTurn (old new : Moment) : Type 0 where
   pub awake : new.next.due ≤ min (new.live.reported + 60000) (2 ^ 64 - 1)
   pub due : IsDueInTime new.live now new.next.due
   pub keeps : old.live.feeds ≡ false → KeepsTimes old.live.source new.live.source now now
+  pub rests : old.live.feeds ≡ false
+      → RestsAway old.live.source → RestsAway new.live.source
+  pub holds : old.live.feeds ≡ false → new.live.ends_at ≡ None
+      → old.live.source.places.items ≢ [] → old.live.source.reach ≢ Away
+      → IsToStay old.live.source old.live.limits.screens.idle now
+      → HeedsTime old.live.source new.live.source now now
   pub pauses : old.live.feeds ≡ false → old.live.source.reach ≡ Away
       → old.live.source.has_more ≡ false → now < old.live.source.upstream.since
       → SameWaiting old.live.source new.live.source
@@ -247,6 +254,7 @@ pub record BeginsAsSetUp (setup : Setup) (old new : StateFiles) (live : Live) : 
   pub limits : live.limits ≡ setup.limits
   pub goes_on : live.ends_at ≡ None
   pub times : (latest : ℕ) → AreBy latest (times_of live.source)
+  pub rests : RestsAway live.source
   pub kept : (log : Log) (nodes : List NodeState) → AreAllFilesOfLog setup.kept log nodes old
       → KeepsFiles nodes new live.saved
   pub had : new.had ≡ old.had

@@ -3,7 +3,7 @@ use Rattle.std.specs.Prelude.{◌≡◌, ◌≢◌, ◌⊎◌, ℕ, ◌+◌, ◌
 use Rattle.feed_live.specs.declared.source.Reach.{Reach}
 use Rattle.feed_live.specs.declared.source.Reach.TheVariants.{Away, Connects, Asks, Reads}
 use Rattle.feed_live.specs.declared.source.Source.{Source}
-use Rattle.feed_live.specs.Relaying.{settings_of}
+use Rattle.feed_live.specs.Relaying.{settings_of, RestsAway}
 
 -- How far the connection is; when its last byte came or, while there is none, when one is due; when
 -- the first server was asked last; when the connection was begun, and its head came; when something
@@ -60,14 +60,17 @@ abbrev pub HeadStays : Option ℕ → Option ℕ → ℕ → Type 0
 HeadStays old new now = (new ≡ old) ⊎ ((old ≡ None) × (new ≡ Some now))
 
 -- Within one connection, when that was begun, and when its head came, stays. No other one is begun.
+-- Once there is none, nothing is marked as left to be read.
 pub record HeedsTime (old new : Source) (now after : ℕ) : Type 0 where
   pub keeps : KeepsTimes old new now after
   pub away : old.reach ≡ Away → new.reach ≡ Away
   pub connects : (since : ℕ) → new.reach ≡ Connects since → old.reach ≡ Connects since
   pub opened : new.opened ≡ old.opened
   pub head : new.reach ≢ Away → HeadStays old.body_since new.body_since now
+  pub rests : RestsAway old → RestsAway new
 
 -- nothing of this changed
 pub record SameTimes (old new : Source) : Type 0 where
   pub set : settings_of new ≡ settings_of old
   pub times : times_of new ≡ times_of old
+  pub rests : RestsAway old → RestsAway new

@@ -1,7 +1,8 @@
 //! The server that is followed, and the mirror of what it sends.
 
-ghost use Rattle.std.specs.Prelude.{◌≡◌, ◌≢◌, ℕ, ◌<◌, ◌≤◌, ◌⊎◌, [], None, Some, false, true, length, max};
+ghost use Rattle.std.specs.Prelude.{◌≡◌, ◌≢◌, ◌↔◌, ℕ, ◌<◌, ◌≤◌, ◌⊎◌, [], IsTrue, None, Some, false, true, length, max};
 ghost use Rattle.feed_hub.specs.Upstream.{later};
+ghost use Rattle.feed_device.specs.declared.device.Stop.TheVariants.{Waits};
 ghost use Rattle.feed_live.specs.Leaving.{LooksInTime, IsBy, heard_time};
 
 mod connecting;
@@ -18,7 +19,7 @@ use crate::source::returning::Returning;
 use crate::source::settling::Settling;
 use crate::times::QUIET;
 use feed_answer::{Identity, Place};
-use feed_device::{Desk, Excerpt};
+use feed_device::{Desk, Excerpt, Stop};
 use feed_figures::{FeedFigures, Following};
 use feed_hub::{Answering, Upstream};
 use feed_node::{Mirror, Node};
@@ -113,6 +114,17 @@ fn sooner(due: u64, at: Option<u64>) -> u64
     }
 }
 
+/// Whether a device would have had to wait: an event comes when it is ready again.
+pub(crate) fn has_to_wait(stop: Stop) -> bool
+    ensures { IsTrue result ↔ (stop ≡ Waits) }
+{
+    match stop {
+        Stop::Waits => true,
+        Stop::Gone => false,
+        Stop::Failed => false,
+    }
+}
+
 impl Source {
     ghost use Rattle.feed_live.specs.Relaying.{SameSource, SameWaiting};
     ghost use Rattle.feed_live.specs.declared.source.Reach.TheVariants.{Away};
@@ -139,6 +151,7 @@ impl Source {
         ensures due { result.upstream.since ≡ desk.now.time }
         // no time that it keeps is one to come
         ensures times { (latest : ℕ) → desk.now.time ≤ latest → AreBy latest (times_of result) }
+        ensures rests { result.has_more ≡ false }
         // each of them has its turn
         ensures round { result.upstream.places ≡ max (length places.items) 1 }
         // what was restored is not shown before a server was heard, unless it is to be at once
@@ -189,6 +202,7 @@ impl Source {
         ensures waits { SameWaiting self.old self.new }
         ensures heard { self.new.is_heard ≡ self.old.is_heard }
         ensures epoch { self.new.epoch ≡ self.old.epoch }
+        ensures more { self.new.has_more ≡ self.old.has_more }
     {
         self.answers.shown.tidy();
     }

@@ -74,10 +74,10 @@ pub struct Live {
 }
 
 impl Live {
-    ghost use Rattle.feed_live.specs.Relaying.{IsRelaying, IsToConnect, SameWaiting, StillRelaying, OnlyServes};
+    ghost use Rattle.feed_live.specs.Relaying.{IsRelaying, IsToConnect, RestsAway, SameWaiting, StillRelaying, OnlyServes};
     ghost use Rattle.feed_live.specs.Calling.{HeedsLink};
-    ghost use Rattle.feed_live.specs.Leaving.{BeginsOne, IsToLeave, is_past, newest_time, why_left};
-    ghost use Rattle.feed_live.specs.Times.{AreBy, KeepsTimes, times_of};
+    ghost use Rattle.feed_live.specs.Leaving.{BeginsOne, IsAtRest, IsToLeave, IsToMove, IsToStay, is_past, newest_time, why_left};
+    ghost use Rattle.feed_live.specs.Times.{AreBy, HeedsTime, KeepsTimes, times_of};
     ghost use Rattle.feed_live.specs.declared.source.Reach.TheVariants.{Away};
     ghost use Rattle.feed_live.specs.Taking.{IsTakingInput, StillTaking, StopsTaking, bytes_in};
     ghost use Rattle.feed_live.specs.Ending.{SameBeside, SameSaved};
@@ -134,6 +134,7 @@ impl Live {
             → limits.serves_old ≡ false → result.source.is_heard ≡ false }
         // no time that it keeps of its servers is one to come
         ensures times { (latest : ℕ) → now ≤ latest → AreBy latest (times_of result.source) }
+        ensures rests { RestsAway result.source }
         // it may connect at once, to each server in turn, and shows what came afresh once that has
         // settled
         ensures connects { result.source.upstream.since ≡ now }
@@ -302,6 +303,33 @@ impl Live {
             → SameWaiting self.old.source self.new.source
             × (L.calls devices.new.link ≡ L.calls devices.old.link) }
 
+        // where there is no connection afterwards, nothing of one is left to be read
+        ensures rests { self.old.feeds ≡ false
+            → RestsAway self.old.source → RestsAway self.new.source }
+
+        // one that is not to be left is waited for from the same times on
+        ensures holds { self.old.feeds ≡ false → self.new.ends_at ≡ None
+            → self.old.source.places.items ≢ [] → self.old.source.reach ≢ Away
+            → IsToStay self.old.source self.old.limits.screens.idle now
+            → HeedsTime self.old.source self.new.source now now }
+
+        // and it isn't left, before an event comes for it, or there is more to be read
+        ensures stays { self.old.feeds ≡ false → self.new.ends_at ≡ None
+            → self.old.source.reach ≢ Away → IsAtRest self.old.source
+            → IsToStay self.old.source self.old.limits.screens.idle now
+            → ¬ (Contains events.now Ready.Link)
+            → SameWaiting self.old.source self.new.source
+            × (L.calls devices.new.link ≡ L.calls devices.old.link) }
+
+        // where no event comes for it, one that has nothing new for long, or is to be asked with
+        // the newest token, is left; the next one may be connected to at once
+        ensures moves { self.old.feeds ≡ false → self.new.ends_at ≡ None
+            → self.old.source.places.items ≢ []
+            → IsToMove self.old.source self.old.limits.screens.idle now
+            → ¬ (Contains events.now Ready.Link)
+            → HasBegun (L.calls devices.old.link) (L.calls devices.new.link)
+            ⊎ (self.new.source.reach ≡ Away) }
+
         // the connection to a server is looked at, written to or read once an event comes for it,
         // unless the server is to be left, or something waits to be said
         ensures heeds { self.old.feeds ≡ false → self.new.ends_at ≡ None
@@ -356,6 +384,11 @@ impl Live {
             → self.new.source.has_more ≡ true }
         ensures rests { self.old.source.reach ≡ Away → self.old.source.has_more ≡ false
             → self.new.source.has_more ≡ false }
+        // else nothing of that changes
+        ensures stays { ¬ (Contains events.now Ready.Link) → self.new.source ≡ self.old.source }
+        ensures more { self.old.source.reach ≢ Away
+            → (self.new.source.has_more ≡ self.old.source.has_more)
+            ⊎ (self.new.source.has_more ≡ true) }
         ensures waits { self.new.screens.saying ≡ self.old.screens.saying }
     {
         for event in events {
@@ -373,6 +406,10 @@ impl Live {
             → self.new.source.has_more ≡ true }
         ensures rests { self.old.source.reach ≡ Away → self.old.source.has_more ≡ false
             → self.new.source.has_more ≡ false }
+        ensures stays { ¬ (Contains events.now Ready.Link) → self.new ≡ self.old }
+        ensures more { self.old.source.reach ≢ Away
+            → (self.new.source.has_more ≡ self.old.source.has_more)
+            ⊎ (self.new.source.has_more ≡ true) }
     {
         if link_is_ready(events) {
             self.source.wake();
@@ -501,7 +538,8 @@ fn saved_of<D: Store>(
 
 /// Whether one of the events says that the connection to a server became ready.
 fn link_is_ready(events: &[Ready]) -> bool
-    ensures { Contains events.now Ready.Link → result ≡ true }
+    ensures some { Contains events.now Ready.Link → result ≡ true }
+    ensures none { ¬ (Contains events.now Ready.Link) → result ≡ false }
 {
     for event in events {
         if matches!(event, Ready::Link) {

@@ -1,27 +1,28 @@
 //! The connection to a server: it is begun, asked and left.
 
-ghost use Rattle.std.specs.Prelude.{◌≡◌, ◌≢◌, ◌<◌, ◌⊎◌, ◌+◌, ◌%◌, ◌||◌, ◌&&◌, ℕ, [], min, None, Some, Err, IfOk, IfSome, IsSome, drop, false, true, length, not, is_some};
-ghost use Rattle.feed_device.specs.Calls.{HasBegun, HasLooked, HasWritten, CalledAtLeastOnce, CalledSince};
+ghost use Rattle.std.specs.Prelude.{◌≡◌, ◌≢◌, ◌<◌, ◌≤◌, ◌⊎◌, ◌+◌, ◌%◌, ◌||◌, ◌&&◌, ℕ, [], min, Bool, Result, None, Some, Ok, Err, IfOk, IfSome, IsSome, IsTrue, drop, false, true, length, not, is_some};
+ghost use Rattle.feed_device.specs.Calls.{HasBegun, HasAnswered, HasLooked, HasWritten, AnsweredAtLeastOnce, AnsweredSince};
+ghost use Rattle.feed_device.specs.declared.device.Stop.{Stop as Stops};
 ghost use Rattle.feed_node.specs.States.{published_token};
 
 use crate::source::rechecking::token_for;
 use crate::source::settling::{begin_shown, followed_of};
-use crate::source::{Reach, Source};
+use crate::source::{Reach, Source, has_to_wait};
 use crate::times::{CONNECT_TIME, RESPONSE_TIME};
 use feed_answer::request_text_as;
-use feed_device::{Desk, Link, Report, Stop, Why};
+use feed_device::{Desk, Link, Report, Why};
 use feed_hub::FIRST_PAUSE;
 use feed_node::Mirror;
 use feed_screens::Screens;
 use std::alloc::{AllocError, Global};
 
 impl Source {
-    ghost use Rattle.feed_live.specs.Calling.{HeedsLink};
+    ghost use Rattle.feed_live.specs.Calling.{AsLooked, AsWritten, AsksAll, HeedsLink, KeepsNothing, MarksMore};
     ghost use Rattle.feed_live.specs.Times.{HeedsTime, KeepsTimes, SameTimes};
-    ghost use Rattle.feed_live.specs.Relaying.{StillFollows, SameSource, SameWaiting, WasLeft, GoesOnTo, IsToConnect, servers_of, within_turn};
+    ghost use Rattle.feed_live.specs.Relaying.{StillFollows, SameSource, SameWaiting, WasLeft, GoesOnTo, IsToConnect, RestsAway, servers_of, within_turn};
     ghost use Rattle.feed_live.specs.Upstream.{IsRequestOf, IsRequestWith, asked_with};
     ghost use Rattle.feed_live.specs.Leaving.{after_loss, connect_time, has_left_quiet, heard_time, is_end, is_past, late_time, newest_time, quiet_at, why_late, why_left, LeavesLate, IsToLeave, IsToMove, IsToStay, IsAtRest, ConnectsTo};
-    ghost use Rattle.feed_live.specs.declared.source.Reach.TheVariants.{Away, Connects as Connecting, Asks as Asked};
+    ghost use Rattle.feed_live.specs.declared.source.Reach.TheVariants.{Away, Connects as Connecting, Asks as Asked, Reads as Read};
     ghost use Rattle.feed_screens.specs.declared.screens.Screens.{Screens};
 
     /// When a server is late: it does not take the connection, or does not answer.
@@ -89,6 +90,8 @@ impl Source {
         ensures moves { IsToMove self.old idle desk.old.time
             → HasBegun (L.calls link.old) (L.calls link.new) ⊎ (self.new.reach ≡ Away) }
         ensures keeps { KeepsTimes self.old self.new desk.old.time desk.new.time }
+        // where there is no connection afterwards, nothing of one is left to be read
+        ensures away { RestsAway self.old → RestsAway self.new }
         // who refused the token still counts
         ensures refused { self.new.upstream.refused ≡ self.old.upstream.refused }
     {
@@ -376,6 +379,19 @@ impl Source {
         // the device is called for it
         ensures calls { HeedsLink self.old screens.old.saying.waits (L.calls link.old)
             (L.calls link.new) }
+        // one that isn't open yet is waited for
+        ensures waits { (since : ℕ) → self.old.reach ≡ Connecting since
+            → (answer : Result Bool Stops)
+            × HasAnswered answer (L.calls link.old).looked (L.calls link.new).looked
+            × (answer ≡ Ok false → self.new ≡ record self.old { has_more = false }) }
+        // as long as a response is read, there is more, or all that came was read
+        ensures more { MarksMore self.new (L.calls link.new).read }
+        // What was kept of a response, and what comes of it, is taken. It is read on, until
+        // something waits to be said.
+        ensures keeps { self.old.reach ≡ Read → KeepsNothing self.new screens.new.saying.waits }
+        ensures takes { self.old.reach ≡ Read → (self.new.reach ≡ Away)
+            ⊎ (screens.new.saying.waits ≢ None)
+            ⊎ AnsweredAtLeastOnce (L.calls link.old).read (L.calls link.new).read }
     {
         self.has_more = false;
         if !self.is_open(desk, link) {
@@ -395,7 +411,9 @@ impl Source {
         ensures heeds { HeedsTime self.old self.new desk.old.time desk.new.time }
         // one that is being made is looked at once
         ensures looks { (since : ℕ) → self.old.reach ≡ Connecting since
-            → HasLooked (L.calls link.old) (L.calls link.new) }
+            → (answer : Result Bool Stops)
+            × HasLooked answer (L.calls link.old) (L.calls link.new)
+            × AsLooked answer result self.old self.new desk.old.time }
         // and one that is open is as it was
         ensures rests { ((since : ℕ) → self.old.reach ≢ Connecting since)
             → (result ≡ true) × (self.new ≡ self.old) × (link.new ≡ link.old) }
@@ -426,7 +444,9 @@ impl Source {
         // the rest of it is offered, where there is some
         ensures asks { (count : ℕ) → self.old.reach ≡ Asked count
             → drop count self.old.request.items ≢ []
-            → CalledAtLeastOnce (L.calls link.old).written (L.calls link.new).written }
+            → AnsweredAtLeastOnce (L.calls link.old).written (L.calls link.new).written }
+        // and all of it, until the connection takes no more for now
+        ensures more { AsksAll self.new (L.calls link.new).written }
         // else nothing is done
         ensures rests { ((count : ℕ) → self.old.reach ≢ Asked count)
             → (self.new ≡ self.old) × (link.new ≡ link.old) }
@@ -446,12 +466,10 @@ impl Source {
             (within_turn (L.exchanges link.new) self.new self.new.rest.items screens) }
         ensures heeds { HeedsTime self.old self.new desk.old.time desk.new.time }
         ensures looks { (L.calls link.new).looked ≡ (L.calls link.old).looked }
-        ensures since { CalledSince (L.calls link.old).written (L.calls link.new).written }
+        ensures since { AnsweredSince (L.calls link.old).written (L.calls link.new).written }
+        ensures more { AsksAll self.new (L.calls link.new).written }
     {
-        for _ in 0..self.request.len().saturating_add(1) {
-            let Reach::Asks(count) = self.reach else {
-                return;
-            };
+        'writes: while let Reach::Asks(count) = self.reach {
             if !self.ask_once(desk, link, count) {
                 return;
             }
@@ -467,12 +485,18 @@ impl Source {
         ensures heeds { self.old.reach ≡ Asked count
             → HeedsTime self.old self.new desk.old.time desk.new.time }
         ensures looks { (L.calls link.new).looked ≡ (L.calls link.old).looked }
-        ensures since { CalledSince (L.calls link.old).written (L.calls link.new).written }
+        ensures since { AnsweredSince (L.calls link.old).written (L.calls link.new).written }
         // it is offered once, where there is some of it
-        ensures some { drop count self.old.request.items ≢ []
-            → HasWritten (L.calls link.old) (L.calls link.new) }
-        ensures none { drop count self.old.request.items ≡ []
-            → (result ≡ false) × (link.new ≡ link.old) }
+        ensures some { drop count self.old.request.items ≢ [] → (answer : Result ℕ Stops)
+            × HasWritten answer (L.calls link.old) (L.calls link.new)
+            × AsWritten answer count result self.old self.new desk.old.time }
+        ensures none { drop count self.old.request.items ≡ [] → (result ≡ false)
+            × (link.new ≡ link.old) × (self.new ≡ record self.old { reach = Read }) }
+        ensures on { IsTrue result → (more : ℕ) × (0 < more)
+            × (more ≤ length (drop count self.old.request.items))
+            × (self.new ≡ record self.old { reach = Asked (count + more) }) }
+        ensures off { result ≡ false → self.old.reach ≡ Asked count
+            → AsksAll self.new (L.calls link.new).written }
     {
         let rest = behind(&self.request, count);
         if rest.is_empty() {
@@ -480,13 +504,18 @@ impl Source {
             return false;
         }
         match link.write(rest) {
+            Ok(0) => {
+                self.lost(desk, link, Why::Broke);
+                false
+            }
             Ok(more) => {
                 self.reach = Reach::Asks(count + more);
                 true
             }
-            Err(Stop::Waits) => false,
-            Err(_) => {
-                self.lost(desk, link, Why::Broke);
+            Err(stop) => {
+                if !has_to_wait(stop) {
+                    self.lost(desk, link, Why::Broke);
+                }
                 false
             }
         }

@@ -1,15 +1,16 @@
 //! The response is read, followed and said.
 
-ghost use Rattle.std.specs.Prelude.{◌≡◌, ◌≢◌, ◌↔◌, IsTrue, ◌+◌, ◌-◌, ◌^◌, ◌++◌, [], List, ℕ, min, OnOk, IfOk, IfErr, IfSome, IsSome, None, Bool, is_some, false, true};
-ghost use Rattle.feed_device.specs.Calls.{HasRead, CalledAtLeastOnce, CalledSince};
+ghost use Rattle.std.specs.Prelude.{◌≡◌, ◌≢◌, ◌↔◌, ◌⊎◌, IsTrue, ◌+◌, ◌-◌, ◌<◌, ◌^◌, ◌++◌, [], List, ℕ, length, min, Result, OnOk, IfOk, IfErr, IfSome, IsSome, None, Bool, if◌then◌else◌, is_some, false, true};
+ghost use Rattle.feed_device.specs.Calls.{HasRead, AnsweredAtLeastOnce, AnsweredSince};
+ghost use Rattle.feed_device.specs.declared.device.Stop.{Stop as Stops};
 ghost use Rattle.feed_node.specs.Mirroring.{MirrorState};
 ghost use Rattle.feed_follow.specs.Following.{Fails};
 ghost use Rattle.feed_follow.specs.Standing.{Standing};
-ghost use Rattle.feed_hub.specs.Upstream.{IsFollowing, IsPushed};
+ghost use Rattle.feed_hub.specs.Upstream.{IsFollowing, IsPushed, counted_on};
 ghost use Rattle.feed_live.specs.Upstream.{wants_memory};
 
-use crate::source::{Reach, Source};
-use feed_device::{Desk, Excerpt, Link, Report, Stop, Why};
+use crate::source::{Reach, Source, has_to_wait};
+use feed_device::{Desk, Excerpt, Link, Report, Why};
 use feed_figures::Following;
 use feed_follow::{FollowFault, Progress};
 use feed_node::{FeedFault, Mirror};
@@ -28,7 +29,7 @@ const PIECE: usize = 16_384;
 const LOCATION: &[u8] = b"location:";
 
 impl Source {
-    ghost use Rattle.feed_live.specs.Calling.{MayReadOn};
+    ghost use Rattle.feed_live.specs.Calling.{AsRead, KeepsNothing, MarksMore, MayReadOn, TakesWhatCame};
     ghost use Rattle.feed_live.specs.Leaving.{HasPublishedAt};
     ghost use Rattle.feed_node.specs.States.{published_token};
     ghost use Rattle.feed_live.specs.Times.{HeedsTime, SameTimes};
@@ -52,7 +53,13 @@ impl Source {
         ensures written { (L.calls link.new).written ≡ (L.calls link.old).written }
         // it is read at least once, where it may be
         ensures reads { MayReadOn self.old screens.old.saying.waits
-            → CalledAtLeastOnce (L.calls link.old).read (L.calls link.new).read }
+            → AnsweredAtLeastOnce (L.calls link.old).read (L.calls link.new).read }
+        // so it is once what was kept is taken, unless something waits to be said
+        ensures takes { self.old.reach ≡ Read → (self.new.reach ≡ Away)
+            ⊎ (screens.new.saying.waits ≢ None)
+            ⊎ AnsweredAtLeastOnce (L.calls link.old).read (L.calls link.new).read }
+        ensures more { MarksMore self.new (L.calls link.new).read }
+        ensures keeps { KeepsNothing self.new screens.new.saying.waits }
     {
         self.take_kept(desk, link, screens);
         if !self.may_read(screens) {
@@ -74,6 +81,9 @@ impl Source {
         // nothing is done where nothing was kept
         ensures nothing { self.old.rest.items ≡ []
             → (self.new ≡ self.old) × (screens.new ≡ screens.old) }
+        // nothing is kept any more, unless something waits to be said
+        ensures takes { (self.new.reach ≡ Away) ⊎ ((self.new.reach ≡ self.old.reach)
+            × ((screens.new.saying.waits ≢ None) ⊎ (self.new.rest.items ≡ []))) }
     {
         if self.rest.is_empty() {
             return;
@@ -97,7 +107,10 @@ impl Source {
         ensures heeds { HeedsTime self.old self.new desk.old.time desk.new.time }
         ensures looks { (L.calls link.new).looked ≡ (L.calls link.old).looked }
         ensures written { (L.calls link.new).written ≡ (L.calls link.old).written }
-        ensures since { CalledSince (L.calls link.old).read (L.calls link.new).read }
+        ensures since { AnsweredSince (L.calls link.old).read (L.calls link.new).read }
+        ensures more { MarksMore self.new (L.calls link.new).read }
+        ensures keeps { KeepsNothing self.old screens.old.saying.waits
+            → KeepsNothing self.new screens.new.saying.waits }
     {
         for _ in 1..READS {
             if !self.may_read(screens) {
@@ -117,7 +130,12 @@ impl Source {
             (within_turn (L.exchanges link.old) self.old [] screens.old)
             (within_turn (L.exchanges link.new) self.new self.new.rest.items screens.new) }
         ensures heeds { HeedsTime self.old self.new desk.old.time desk.new.time }
-        ensures calls { HasRead (L.calls link.old) (L.calls link.new) }
+        ensures calls { (answer : Result ℕ Stops)
+            × HasRead answer (L.calls link.old) (L.calls link.new)
+            × AsRead answer result self.old self.new }
+        // what came is taken, until something waits to be said
+        ensures keeps { self.old.rest.items ≡ []
+            → KeepsNothing self.new screens.new.saying.waits }
     {
         let mut buf = [0u8; PIECE];
         match link.read(&mut buf) {
@@ -133,10 +151,11 @@ impl Source {
                 self.take(desk, link, screens, &buf[..count]);
                 self.reach == Reach::Reads
             }
-            Err(Stop::Waits) => false,
-            Err(_) => {
-                self.settle_ended(desk, link, screens, 0);
-                self.lost(desk, link, Why::Broke);
+            Err(stop) => {
+                if !has_to_wait(stop) {
+                    self.settle_ended(desk, link, screens, 0);
+                    self.lost(desk, link, Why::Broke);
+                }
                 false
             }
         }
@@ -150,13 +169,11 @@ impl Source {
             (within_turn (L.exchanges link.new) self.new self.new.rest.items screens.new) }
         ensures heeds { HeedsTime self.old self.new desk.old.time desk.new.time }
         ensures calls { L.calls link.new ≡ L.calls link.old }
+        ensures takes { TakesWhatCame self.old self.new screens.new.saying.waits }
     {
         let mut rest = piece;
-        for _ in 0..piece.len() {
-            // The mirror goes no further than what is said.
-            if rest.is_empty() || screens.says_at().is_some() {
-                break;
-            }
+        // The mirror goes no further than what is said.
+        'lines: while !rest.is_empty() && screens.says_at().is_none() {
             match self.take_next(desk, link, screens, rest) {
                 Some(next) => rest = next,
                 None => return,
@@ -204,6 +221,8 @@ impl Source {
             → (left : List ℕ) → StillFollows
             (within_turn (L.exchanges link.old) self.old piece.entry.now screens.old)
             (within_turn (L.exchanges link.new) self.new left screens.new)) }
+        ensures shorter { piece.entry.now ≢ [] → IfSome result (λ next.
+            length next.now < length piece.entry.now) }
         ensures heeds { HeedsTime self.old self.new desk.old.time desk.new.time }
         ensures calls { L.calls link.new ≡ L.calls link.old }
     {
@@ -265,6 +284,8 @@ impl Source {
             → (left : List ℕ) → StillFollows
             (within_turn (L.exchanges link.old) self.old piece.entry.now screens.old)
             (within_turn (L.exchanges link.new) self.new left screens.new)) }
+        ensures shorter { piece.entry.now ≢ [] → IfSome result (λ next.
+            length next.now < length piece.entry.now) }
         ensures heeds { HeedsTime self.old self.new desk.old.time desk.new.time }
         ensures calls { L.calls link.new ≡ L.calls link.old }
     {
@@ -331,6 +352,9 @@ impl Source {
     fn refused<L: Link>(&mut self, desk: &mut Desk, link: &mut L)
         ensures left { WasLeft self.old self.new (L.exchanges link.old) (L.exchanges link.new) }
         ensures at_once { self.new.upstream.since ≡ desk.old.time }
+        ensures counts { self.new.upstream.refused ≡ (if is_some self.old.rechecking.again
+            then self.old.upstream.refused
+            else counted_on self.old.upstream.refused self.old.upstream.places) }
         ensures heeds { HeedsTime self.old self.new desk.old.time desk.new.time }
         ensures calls { L.calls link.new ≡ L.calls link.old }
     {
@@ -350,6 +374,9 @@ impl Source {
     pub(crate) fn without_token<L: Link>(&mut self, link: &mut L, now: u64)
         ensures left { WasLeft self.old self.new (L.exchanges link.old) (L.exchanges link.new) }
         ensures at_once { self.new.upstream.since ≡ now }
+        // who refused the token counts, until each one has
+        ensures counts { self.new.upstream.refused
+            ≡ counted_on self.old.upstream.refused self.old.upstream.places }
         ensures heeds { HeedsTime self.old self.new now now }
         ensures calls { L.calls link.new ≡ L.calls link.old }
     {
@@ -511,7 +538,9 @@ fn location_of(line: &[u8]) -> Option<&[u8]> {
 /// The first line of a piece, with its line feed, or all of it, where it has none: a part of a
 /// line; and what comes after that.
 pub(crate) fn line_or_part(piece: &[u8]) -> (&[u8], &[u8])
-    ensures { result.0.now ++ result.1.now ≡ piece.now }
+    ensures whole { result.0.now ++ result.1.now ≡ piece.now }
+    // the first has some bytes, where there are some
+    ensures shorter { piece.now ≢ [] → length result.1.now < length piece.now }
 {
     match memchr(b'\n', piece) {
         Some(at) => piece.split_at(at + 1),

@@ -2,7 +2,8 @@
 //! other states. So a connection asks for the newest commit again, and that has to be what it was.
 //! Only commits that the relay holds may come before it. Else everything is asked for.
 
-ghost use Rattle.std.specs.Prelude.{◌≡◌, ◌&&◌, List, ℕ, IfOk, IfSome, None, Some, false, true, not, is_some, is_none};
+ghost use Rattle.std.specs.Prelude.{◌≡◌, ◌≢◌, ◌<◌, ◌&&◌, [], List, ℕ, length, IfOk, IfSome, None, Some, false, true, not, is_some, is_none};
+ghost use Rattle.feed_hub.specs.Upstream.{counted_on};
 ghost use Rattle.std.specs.Option.{option_copied};
 ghost use Rattle.feed_node.specs.States.{nothing_published};
 ghost use Rattle.feed_laws.specs.Follows.{MayAskWith};
@@ -313,6 +314,8 @@ impl Source {
     fn forgot<L: Link>(&mut self, desk: &mut Desk, link: &mut L)
         ensures left { WasLeft self.old self.new (L.exchanges link.old) (L.exchanges link.new) }
         ensures at_once { self.new.upstream.since ≡ desk.old.time }
+        ensures counts { self.new.upstream.refused
+            ≡ counted_on self.old.upstream.refused self.old.upstream.places }
         ensures heeds { HeedsTime self.old self.new desk.old.time desk.new.time }
         ensures calls { L.calls link.new ≡ L.calls link.old }
     {
@@ -345,6 +348,8 @@ impl Source {
             → (left : List ℕ) → StillFollows
             (within_turn (L.exchanges link.old) self.old piece.entry.now screens.old)
             (within_turn (L.exchanges link.new) self.new left screens.new)) }
+        ensures shorter { piece.entry.now ≢ [] → IfSome result (λ next.
+            length next.now < length piece.entry.now) }
         ensures heeds { HeedsTime self.old self.new desk.old.time desk.new.time }
         ensures calls { L.calls link.new ≡ L.calls link.old }
     {

@@ -12,7 +12,7 @@ use crate::turn::{Input, Live};
 use feed_device::{Link, Report, Store};
 
 impl Live {
-    ghost use Rattle.feed_live.specs.Relaying.{StillRelaying, OnlyServes, SameEnd, SameWaiting, IsToConnect};
+    ghost use Rattle.feed_live.specs.Relaying.{StillRelaying, OnlyServes, RestsAway, SameEnd, SameWaiting, IsToConnect};
     ghost use Rattle.feed_live.specs.Calling.{HeedsLink};
     ghost use Rattle.feed_live.specs.Times.{HeedsTime, KeepsTimes};
     ghost use Rattle.feed_live.specs.Leaving.{BeginsOne, IsAtRest, IsToLeave, IsToMove, IsToStay};
@@ -152,6 +152,8 @@ impl Live {
         // no time that is kept of servers comes to be later than now
         ensures keeps { KeepsTimes self.old.source self.new.source self.old.desk.time
             self.new.desk.time }
+        // where there is no connection afterwards, nothing of one is left to be read
+        ensures rests { RestsAway self.old.source → RestsAway self.new.source }
         // one that is not to be left is waited for from the same times on
         ensures holds { self.old.ends_at ≡ None → self.old.source.places.items ≢ []
             → self.old.source.reach ≢ Away

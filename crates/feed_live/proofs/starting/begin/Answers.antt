@@ -25,6 +25,7 @@ returns-clause-begins g c =
       limits = c.new-live.ensures.limits;
       goes_on = c.new-live.ensures.goes_on;
       times = λ latest. c.new-live.ensures.times latest (omega arith);
+      rests = c.new-live.ensures.rests;
       kept = λ log nodes of.
           c.new-live.ensures.kept nodes of.written.0 (ap (λ (f : StateFiles). f.written) same ∙ of.written.1)
           (subst (λ (f : StateFiles). IsKnown f.next) (sym same) of.next)

@@ -1,4 +1,6 @@
-use Rattle.feed_live.proofs.TimesLemmas.{heeds_then}
+use Rattle.std.proofs.Common.{◌∙◌, sym, ap, drop}
+use Rattle.feed_device.proofs.CallLemmas.{answered_once, answered_then}
+use Rattle.feed_live.proofs.TimesLemmas.{heeds_then, asks_count}
 use Rattle.feed_live.proofs.source.Source.ask.Goals as goal
 
 pub returns-then-ask_once-clause-follows : goal.returns-then-ask_once-clause-follows
@@ -16,3 +18,10 @@ returns-else-ask_once-clause-heeds g c = c.ask_once.ensures.heeds c.in-Asks.is
 
 pub returns-else-ask_once-clause-looks : goal.returns-else-ask_once-clause-looks
 returns-else-ask_once-clause-looks g c = c.ask_once.ensures.looks
+
+pub returns-then-ask_once-clause-asks : goal.returns-then-ask_once-clause-asks
+returns-then-ask_once-clause-asks g c =
+    λ count at some.
+    let same = asks_count c.in-Asks.count count (sym c.in-Asks.is ∙ at) in
+    let offered = c.ask_once.ensures.some (λ none. some (ap (λ n. drop n c.args.self.now.request.items) (sym same) ∙ none)) in
+    answered_then _ _ _ (answered_once offered.0 _ _ offered.1.written) c.ask_rest.ensures.since

@@ -1,9 +1,9 @@
 use Rattle.std.specs.Prelude.{is_none}
 use Rattle.std.proofs.Common.{◌∙◌, sym, ap, subst, drop}
 use Rattle.feed_live.specs.Relaying.{pursuit, MayFollow, followed_by}
-use Rattle.feed_live.proofs.RelayLemmas.{asked_more_honest, known_before, asks_follows}
-use Rattle.feed_device.specs.Calls.{CalledSince}
-use Rattle.feed_device.proofs.CallLemmas.{since_once}
+use Rattle.feed_live.proofs.RelayLemmas.{asked_more_honest, known_before, asks_follows, with_left}
+use Rattle.feed_device.specs.Calls.{AnsweredSince}
+use Rattle.feed_device.proofs.CallLemmas.{answers_once}
 use Rattle.feed_live.proofs.source.Source.ask_once.Goals as goal
 
 pub returns-in-Ok-clause-follows : goal.returns-in-Ok-clause-follows
@@ -21,11 +21,22 @@ returns-in-Ok-clause-follows g c =
     )
 
 pub returns-in-Ok-clause-since : goal.returns-in-Ok-clause-since
-returns-in-Ok-clause-since g c = since_once _ _ c.in-Ok.ensures.calls.written
+returns-in-Ok-clause-since g c = answers_once _ _ _ c.in-Ok.ensures.calls.written
 
-pub returns-in-Err-Waits-clause-since : goal.returns-in-Err-Waits-clause-since
-returns-in-Err-Waits-clause-since g c = since_once _ _ c.in-Err-Waits.ensures.calls.written
+pub returns-else-not-has_to_wait-clause-since : goal.returns-else-not-has_to_wait-clause-since
+returns-else-not-has_to_wait-clause-since g c = answers_once _ _ _ c.in-Err.ensures.calls.written
 
-pub returns-in-Err-clause-since : goal.returns-in-Err-clause-since
-returns-in-Err-clause-since g c =
-    subst (λ k. CalledSince (g.L.Link.calls c.args.link.now).written k.written) (sym c.lost.ensures.calls) (since_once _ _ c.in-Err.ensures.calls.written)
+pub returns-then-not-has_to_wait-clause-since : goal.returns-then-not-has_to_wait-clause-since
+returns-then-not-has_to_wait-clause-since g c =
+    subst (λ k. AnsweredSince (g.L.Link.calls c.args.link.now).written k.written) (sym c.lost-then-not-has_to_wait.ensures.calls) (answers_once _ _ _ c.in-Err.ensures.calls.written)
+
+pub returns-in-Ok-eq0-clause-follows : goal.returns-in-Ok-eq0-clause-follows
+returns-in-Ok-eq0-clause-follows g c =
+    λ asks screens limits log servers contest sockets follows. (
+      c.lost.ensures.left.servers ∙ follows.0,
+      with_left limits log servers c.lost.ensures.left c.lost.new.self.rest.items (λ honest. follows.1.0 (asked_more_honest limits log servers _ _ _ c.in-Ok-eq0.ensures.bytes honest)),
+    )
+
+pub returns-in-Ok-eq0-clause-since : goal.returns-in-Ok-eq0-clause-since
+returns-in-Ok-eq0-clause-since g c =
+    subst (λ k. AnsweredSince (g.L.Link.calls c.args.link.now).written k.written) (sym c.lost.ensures.calls) (answers_once _ _ _ c.in-Ok-eq0.ensures.calls.written)

@@ -8,7 +8,7 @@ pub returns-in_err-feed_line-clause-takes : goal.returns-in_err-feed_line-clause
 returns-in_err-feed_line-clause-takes c =
     λ none limits log contest begun input sockets shows takes.
     let here = c.loop.invariant.takes limits log contest begun input sockets shows takes in
-    let fed = c.feed_line.ensures.takes c.line_or_part.result.1.now limits log contest begun input sockets here.0 (takes_so c.line_or_part.ensures refl here.1) in
+    let fed = c.feed_line.ensures.takes c.line_or_part.result.1.now limits log contest begun input sockets here.0 (takes_so c.line_or_part.ensures.whole refl here.1) in
     (fed.0, none_ok _ _ c.from_residual.result c.from_residual.ensures.1)
 
 pub returns-in_err-feed_line-clause-stops : goal.returns-in_err-feed_line-clause-stops
@@ -16,7 +16,7 @@ returns-in_err-feed_line-clause-stops c =
     λ none.
     let e = err_from_is_err_and c.from_residual.result c.from_residual.ensures.1 in
     rw (e.1, e.2) (λ begun input takes.
-    c.in_err-feed_line.ensures.stops c.line_or_part.result.1.now begun input (takes_so c.line_or_part.ensures refl (c.loop.invariant.goes_on begun input takes)))
+    c.in_err-feed_line.ensures.stops c.line_or_part.result.1.now begun input (takes_so c.line_or_part.ensures.whole refl (c.loop.invariant.goes_on begun input takes)))
 
 pub loop-preserved : goal.loop-preserved
 loop-preserved c =
@@ -25,9 +25,9 @@ loop-preserved c =
       rest = c.feed_line.ensures.rest ∙ c.loop.invariant.rest;
       takes = λ limits log contest begun input sockets shows takes.
           let here = c.loop.invariant.takes limits log contest begun input sockets shows takes in
-          c.in_ok-feed_line.ensures.takes c.line_or_part.result.1.now limits log contest begun input sockets here.0 (takes_so c.line_or_part.ensures refl here.1);
+          c.in_ok-feed_line.ensures.takes c.line_or_part.result.1.now limits log contest begun input sockets here.0 (takes_so c.line_or_part.ensures.whole refl here.1);
       goes_on = λ begun input takes.
-          c.in_ok-feed_line.ensures.stops c.line_or_part.result.1.now begun input (takes_so c.line_or_part.ensures refl (c.loop.invariant.goes_on begun input takes));
+          c.in_ok-feed_line.ensures.stops c.line_or_part.result.1.now begun input (takes_so c.line_or_part.ensures.whole refl (c.loop.invariant.goes_on begun input takes));
     }
 
 pub returns-clause-takes : goal.returns-clause-takes

@@ -2,8 +2,6 @@ use Rattle.std.specs.Prelude.{is_none}
 use Rattle.std.proofs.Common.{◌≡◌, ◌∙◌, sym, ap, subst, [], take, length}
 use Rattle.feed_live.specs.Relaying.{FollowsServers, followed_by, within_turn}
 use Rattle.feed_live.proofs.RelayLemmas.{with_left, received_more_honest, known_before, reads_follows, to_show, to_show_of}
-use Rattle.feed_live.proofs.TimesLemmas.{heeds_then}
-use Rattle.feed_device.specs.Calls.{HasRead}
 use Rattle.feed_live.proofs.source.Source.read.Goals as goal
 
 pub returns-in-Ok-eq0-clause-follows : goal.returns-in-Ok-eq0-clause-follows
@@ -33,24 +31,9 @@ returns-in-Ok-clause-follows g c =
       ),
     )
 
-pub returns-in-Err-clause-follows : goal.returns-in-Err-clause-follows
-returns-in-Err-clause-follows g c =
+pub returns-then-not-has_to_wait-clause-follows : goal.returns-then-not-has_to_wait-clause-follows
+returns-then-not-has_to_wait-clause-follows g c =
     λ reads none limits log servers contest sockets follows.
-    let shows = c.settle_ended-in-Err.ensures.shows limits log servers contest sockets (to_show limits log servers c.args.self.now c.args.screens.now _ [] reads
+    let shows = c.settle_ended-then-not-has_to_wait.ensures.shows limits log servers contest sockets (to_show limits log servers c.args.self.now c.args.screens.now _ [] reads
     (subst (λ e. FollowsServers limits log servers contest (within_turn e c.args.self.now [] c.args.screens.now) sockets) (sym c.in-Err.ensures.bytes) follows)) in
-    (c.lost-in-Err.ensures.left.servers ∙ shows.0, with_left limits log servers c.lost-in-Err.ensures.left c.lost-in-Err.new.self.rest.items shows.1)
-
-pub returns-in-Ok-eq0-clause-heeds : goal.returns-in-Ok-eq0-clause-heeds
-returns-in-Ok-eq0-clause-heeds g c = heeds_then c.lost.ensures.heeds c.settle_ended.ensures.heeds
-
-pub returns-in-Ok-eq0-clause-calls : goal.returns-in-Ok-eq0-clause-calls
-returns-in-Ok-eq0-clause-calls g c = subst (HasRead (g.L.Link.calls c.args.link.now)) (sym (c.lost.ensures.calls ∙ c.settle_ended.ensures.calls)) c.in-Ok-eq0.ensures.calls
-
-pub returns-in-Err-clause-heeds : goal.returns-in-Err-clause-heeds
-returns-in-Err-clause-heeds g c = heeds_then c.lost-in-Err.ensures.heeds c.settle_ended-in-Err.ensures.heeds
-
-pub returns-in-Err-clause-calls : goal.returns-in-Err-clause-calls
-returns-in-Err-clause-calls g c = subst (HasRead (g.L.Link.calls c.args.link.now)) (sym (c.lost-in-Err.ensures.calls ∙ c.settle_ended-in-Err.ensures.calls)) c.in-Err.ensures.calls
-
-pub returns-in-Ok-clause-calls : goal.returns-in-Ok-clause-calls
-returns-in-Ok-clause-calls g c = subst (HasRead (g.L.Link.calls c.args.link.now)) (sym c.take.ensures.calls) c.in-Ok.ensures.calls
+    (c.lost-then-not-has_to_wait.ensures.left.servers ∙ shows.0, with_left limits log servers c.lost-then-not-has_to_wait.ensures.left c.lost-then-not-has_to_wait.new.self.rest.items shows.1)

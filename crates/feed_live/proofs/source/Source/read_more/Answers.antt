@@ -1,6 +1,6 @@
 use Rattle.std.specs.Prelude.{is_none}
 use Rattle.std.proofs.Common.{◌∙◌, sym}
-use Rattle.feed_device.proofs.CallLemmas.{since_once, since_then}
+use Rattle.feed_device.proofs.CallLemmas.{answers_once, answers_then}
 use Rattle.feed_live.specs.Calling.{MayReadOn}
 use Rattle.feed_live.specs.Relaying.{followed_by}
 use Rattle.feed_live.proofs.RelayLemmas.{with_unread, within}
@@ -19,13 +19,13 @@ pub returns-then-not-read-clause-heeds : goal.returns-then-not-read-clause-heeds
 returns-then-not-read-clause-heeds g c = heeds_then c.read.ensures.heeds c.loop.invariant.heeds
 
 pub returns-then-not-read-clause-looks : goal.returns-then-not-read-clause-looks
-returns-then-not-read-clause-looks g c = c.read.ensures.calls.looked ∙ c.loop.invariant.looks
+returns-then-not-read-clause-looks g c = c.read.ensures.calls.1.looked ∙ c.loop.invariant.looks
 
 pub returns-then-not-read-clause-written : goal.returns-then-not-read-clause-written
-returns-then-not-read-clause-written g c = c.read.ensures.calls.written ∙ c.loop.invariant.written
+returns-then-not-read-clause-written g c = c.read.ensures.calls.1.written ∙ c.loop.invariant.written
 
 pub returns-then-not-read-clause-since : goal.returns-then-not-read-clause-since
-returns-then-not-read-clause-since g c = since_then _ _ _ c.loop.invariant.since (since_once _ _ c.read.ensures.calls.read)
+returns-then-not-read-clause-since g c = answers_then _ _ _ c.loop.invariant.since (answers_once _ _ _ c.read.ensures.calls.1.read)
 
 pub loop-preserved : goal.loop-preserved
 loop-preserved g c =
@@ -36,7 +36,8 @@ loop-preserved g c =
           (within (with_unread limits log servers (is_none c.loop.self.coming) _ c.loop.self.reach c.loop.self.request.items c.loop.self.upstream.follower (followed_by c.loop.self) (sym may.rest))
           (c.loop.invariant.follows limits log servers contest sockets follows));
       heeds = heeds_then c.read.ensures.heeds c.loop.invariant.heeds;
-      looks = c.read.ensures.calls.looked ∙ c.loop.invariant.looks;
-      written = c.read.ensures.calls.written ∙ c.loop.invariant.written;
-      since = since_then _ _ _ c.loop.invariant.since (since_once _ _ c.read.ensures.calls.read);
+      keeps = λ before. c.read.ensures.keeps may.rest;
+      looks = c.read.ensures.calls.1.looked ∙ c.loop.invariant.looks;
+      written = c.read.ensures.calls.1.written ∙ c.loop.invariant.written;
+      since = answers_then _ _ _ c.loop.invariant.since (answers_once _ _ _ c.read.ensures.calls.1.read);
     }

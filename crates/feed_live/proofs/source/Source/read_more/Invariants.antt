@@ -1,5 +1,6 @@
 use Rattle.std.proofs.Common.{◌≡◌}
-use Rattle.feed_device.specs.Calls.{CalledSince}
+use Rattle.feed_device.specs.Calls.{AnsweredSince}
+use Rattle.feed_live.specs.Calling.{KeepsNothing}
 use Rattle.feed_live.specs.Relaying.{StillFollows, within_turn}
 use Rattle.feed_live.specs.Times.{HeedsTime}
 use Rattle.feed_live.proofs.source.Source.read_more.Given as goal
@@ -11,5 +12,6 @@ invariant-loop g l =
       heeds : HeedsTime l.initial.self l.self l.initial.desk.time l.desk.time;
       looks : (g.L.Link.calls l.link).looked ≡ (g.L.Link.calls l.initial.link).looked;
       written : (g.L.Link.calls l.link).written ≡ (g.L.Link.calls l.initial.link).written;
-      since : CalledSince (g.L.Link.calls l.initial.link).read (g.L.Link.calls l.link).read;
+      keeps : KeepsNothing l.initial.self l.initial.screens.saying.waits → KeepsNothing l.self l.screens.saying.waits;
+      since : AnsweredSince (g.L.Link.calls l.initial.link).read (g.L.Link.calls l.link).read;
     }

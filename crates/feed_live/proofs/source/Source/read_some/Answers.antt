@@ -1,7 +1,7 @@
 use Rattle.std.specs.Prelude.{is_none}
-use Rattle.std.proofs.Common.{◌∙◌, sym, ap, subst}
-use Rattle.feed_device.proofs.CallLemmas.{called_once, least_then}
-use Rattle.feed_device.specs.Calls.{CalledAtLeastOnce}
+use Rattle.std.proofs.Common.{◌∙◌, inr, sym, ap, subst}
+use Rattle.feed_device.proofs.CallLemmas.{answered_once, answered_then}
+use Rattle.feed_device.specs.Calls.{AnsweredAtLeastOnce}
 use Rattle.feed_live.specs.Calling.{MayReadOn}
 use Rattle.feed_live.specs.Relaying.{followed_by}
 use Rattle.feed_live.proofs.RelayLemmas.{with_unread, within}
@@ -21,16 +21,16 @@ pub returns-then-read-clause-heeds : goal.returns-then-read-clause-heeds
 returns-then-read-clause-heeds g c = heeds_then c.read_more.ensures.heeds (heeds_then c.read.ensures.heeds c.take_kept.ensures.heeds)
 
 pub returns-then-read-clause-looks : goal.returns-then-read-clause-looks
-returns-then-read-clause-looks g c = c.read_more.ensures.looks ∙ c.read.ensures.calls.looked ∙ ap (λ k. k.looked) c.take_kept.ensures.calls
+returns-then-read-clause-looks g c = c.read_more.ensures.looks ∙ c.read.ensures.calls.1.looked ∙ ap (λ k. k.looked) c.take_kept.ensures.calls
 
 pub returns-then-read-clause-written : goal.returns-then-read-clause-written
-returns-then-read-clause-written g c = c.read_more.ensures.written ∙ c.read.ensures.calls.written ∙ ap (λ k. k.written) c.take_kept.ensures.calls
+returns-then-read-clause-written g c = c.read_more.ensures.written ∙ c.read.ensures.calls.1.written ∙ ap (λ k. k.written) c.take_kept.ensures.calls
 
 pub returns-then-read-clause-reads : goal.returns-then-read-clause-reads
 returns-then-read-clause-reads g c =
     λ may.
-    subst (λ k. CalledAtLeastOnce k.read (g.L.Link.calls c.read_more.new.link).read) c.take_kept.ensures.calls
-    (least_then _ _ _ (called_once _ _ c.read.ensures.calls.read) c.read_more.ensures.since)
+    subst (λ k. AnsweredAtLeastOnce k.read (g.L.Link.calls c.read_more.new.link).read) c.take_kept.ensures.calls
+    (answered_then _ _ _ (answered_once _ _ _ c.read.ensures.calls.1.read) c.read_more.ensures.since)
 
 pub returns-else-read-clause-follows : goal.returns-else-read-clause-follows
 returns-else-read-clause-follows g c =
@@ -44,12 +44,18 @@ pub returns-else-read-clause-heeds : goal.returns-else-read-clause-heeds
 returns-else-read-clause-heeds g c = heeds_then c.read.ensures.heeds c.take_kept.ensures.heeds
 
 pub returns-else-read-clause-looks : goal.returns-else-read-clause-looks
-returns-else-read-clause-looks g c = c.read.ensures.calls.looked ∙ ap (λ k. k.looked) c.take_kept.ensures.calls
+returns-else-read-clause-looks g c = c.read.ensures.calls.1.looked ∙ ap (λ k. k.looked) c.take_kept.ensures.calls
 
 pub returns-else-read-clause-written : goal.returns-else-read-clause-written
-returns-else-read-clause-written g c = c.read.ensures.calls.written ∙ ap (λ k. k.written) c.take_kept.ensures.calls
+returns-else-read-clause-written g c = c.read.ensures.calls.1.written ∙ ap (λ k. k.written) c.take_kept.ensures.calls
 
 pub returns-else-read-clause-reads : goal.returns-else-read-clause-reads
 returns-else-read-clause-reads g c =
     λ may.
-    subst (λ k. CalledAtLeastOnce k.read (g.L.Link.calls c.read.new.link).read) c.take_kept.ensures.calls (called_once _ _ c.read.ensures.calls.read)
+    subst (λ k. AnsweredAtLeastOnce k.read (g.L.Link.calls c.read.new.link).read) c.take_kept.ensures.calls (answered_once _ _ _ c.read.ensures.calls.1.read)
+
+pub returns-then-read-clause-takes : goal.returns-then-read-clause-takes
+returns-then-read-clause-takes g c =
+    λ reads.
+    inr (inr (subst (λ k. AnsweredAtLeastOnce k.read (g.L.Link.calls c.read_more.new.link).read) c.take_kept.ensures.calls
+    (answered_then _ _ _ (answered_once _ _ _ c.read.ensures.calls.1.read) c.read_more.ensures.since)))

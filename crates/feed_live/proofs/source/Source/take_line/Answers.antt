@@ -13,7 +13,7 @@ returns-in-Ok-Head-clause-goes_on g c = (
   λ reads limits log servers contest sockets follows. (
     c.push.ensures.only.servers ∙ follows.0,
     with_taken limits log servers _ c.line_or_part.result.0.now c.line_or_part.result.1.now _ reads c.push.ensures.only (head_goes_on c.in-Ok-Head.field-0-is) c.in-Ok-Head.ensures.ok
-        (with_unread limits log servers (is_none c.args.self.now.coming) _ _ _ _ _ c.line_or_part.ensures follows.1),
+        (with_unread limits log servers (is_none c.args.self.now.coming) _ _ _ _ _ c.line_or_part.ensures.whole follows.1),
   ),
 )
 
@@ -31,7 +31,7 @@ returns-in-Ok-Body-clause-goes_on g c = (
         (with_screens limits log servers _ (λ shows serving. c.say.ensures.serves (states_of limits log) contest sockets (among_shown limits log shows) serving)
         (with_same limits log servers c.found.ensures.same _ c.line_or_part.result.1.now c.line_or_part.result.1.now refl
         (with_taken limits log servers _ c.line_or_part.result.0.now c.line_or_part.result.1.now _ reads c.push.ensures.only (body_goes_on c.in-Ok-Body.field-0-is) c.in-Ok-Body.ensures.ok
-        (with_unread limits log servers (is_none c.args.self.now.coming) _ _ _ _ _ c.line_or_part.ensures follows.1)))),
+        (with_unread limits log servers (is_none c.args.self.now.coming) _ _ _ _ _ c.line_or_part.ensures.whole follows.1)))),
   ),
 )
 
@@ -49,7 +49,7 @@ returns-in-Ok-Done-clause-stops g c =
           (with_screens limits log servers _ (λ shows serving. c.say-in-Ok-Done.ensures.serves (states_of limits log) contest sockets (among_shown limits log shows) serving)
           (with_same limits log servers c.found-in-Ok-Done.ensures.same _ next next refl
           (with_taken limits log servers _ c.line_or_part.result.0.now next _ reads c.push.ensures.only (done_goes_on c.in-Ok-Done.field-0-is) c.in-Ok-Done.ensures.ok
-          (with_unread limits log servers (is_none c.args.self.now.coming) _ _ _ _ _ c.line_or_part.ensures follows.1)))) in
+          (with_unread limits log servers (is_none c.args.self.now.coming) _ _ _ _ _ c.line_or_part.ensures.whole follows.1)))) in
           let settled = c.settle.ensures.shows limits log servers contest sockets
           (to_show limits log servers c.say-in-Ok-Done.new.self c.say-in-Ok-Done.new.screens _ next (c.say-in-Ok-Done.ensures.same.reach ∙ c.found-in-Ok-Done.ensures.same.reach ∙ c.push.ensures.only.reach ∙ reads)
           (c.say-in-Ok-Done.ensures.same.servers ∙ c.found-in-Ok-Done.ensures.same.servers ∙ c.push.ensures.only.servers ∙ follows.0, said)) in (
@@ -66,7 +66,7 @@ returns-in-Ok-TokenRefused-clause-stops g c =
         c.refused.ensures.left.servers ∙ c.push.ensures.only.servers ∙ follows.0,
         with_left limits log servers c.refused.ensures.left left
             (with_refused limits log servers _ c.line_or_part.result.0.now c.line_or_part.result.1.now _ reads c.push.ensures.only c.in-Ok-TokenRefused.field-0-is c.in-Ok-TokenRefused.ensures.ok
-            (with_unread limits log servers (is_none c.args.self.now.coming) _ _ _ _ _ c.line_or_part.ensures follows.1)),
+            (with_unread limits log servers (is_none c.args.self.now.coming) _ _ _ _ _ c.line_or_part.ensures.whole follows.1)),
       ),
     )
 
@@ -78,7 +78,7 @@ returns-then-is_want_of_memory-clause-stops g c =
         c.lost-then-is_want_of_memory.ensures.left.servers ∙ c.push.ensures.only.servers ∙ follows.0,
         with_left limits log servers c.lost-then-is_want_of_memory.ensures.left left
             (with_failed limits log servers _ c.line_or_part.result.0.now c.line_or_part.result.1.now _ reads c.push.ensures.only c.in-Err.ensures.err
-            (with_unread limits log servers (is_none c.args.self.now.coming) _ _ _ _ _ c.line_or_part.ensures follows.1)),
+            (with_unread limits log servers (is_none c.args.self.now.coming) _ _ _ _ _ c.line_or_part.ensures.whole follows.1)),
       ),
     )
 
@@ -88,7 +88,7 @@ returns-else-is_want_of_memory-clause-stops g c =
       c.lost-in-Err.ensures.left.reach,
       λ reads left limits log servers contest sockets follows.
           let next = c.line_or_part.result.1.now in
-          let here = with_unread limits log servers (is_none c.args.self.now.coming) _ _ _ _ _ c.line_or_part.ensures follows.1 in
+          let here = with_unread limits log servers (is_none c.args.self.now.coming) _ _ _ _ _ c.line_or_part.ensures.whole follows.1 in
           let may = failed_may_show limits log servers (is_none c.args.self.now.coming) c.args.self.now.reach c.args.self.now.request.items c.line_or_part.result.0.now next _ c.args.self.now.upstream.follower
           (followed_by c.args.self.now) (followed_by c.push.new.self) c.in-Err.fault (sym c.is_want_of_memory.ensures ∙ c.if-is_want_of_memory.false) reads c.push.ensures.only.limits c.in-Err.ensures.err here.1 in
           let ended = c.settle_ended.ensures.shows limits log servers contest sockets (

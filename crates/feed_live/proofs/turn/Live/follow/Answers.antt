@@ -5,7 +5,7 @@ use Rattle.feed_live.specs.declared.source.Reach.TheVariants.{Away, Reads}
 use Rattle.feed_live.specs.Relaying.{SameWaiting}
 use Rattle.feed_live.specs.Leaving.{IsAtRest}
 use Rattle.feed_live.proofs.TurnLemmas.{left_on}
-use Rattle.feed_live.proofs.TimesLemmas.{keeps_then, heeds_then, heeds_until, heeds_same, same_times, heeds_link_same}
+use Rattle.feed_live.proofs.TimesLemmas.{keeps_then, heeds_then, heeds_until, heeds_same, same_times, rests_same, heeds_link_same}
 use Rattle.feed_live.proofs.turn.Live.follow.Goals as goal
 
 pub returns-then-is_heard-clause-relaying : goal.returns-then-is_heard-clause-relaying
@@ -72,7 +72,7 @@ pub returns-then-is_heard-clause-holds : goal.returns-then-is_heard-clause-holds
 returns-then-is_heard-clause-holds g c =
     λ none some reach stay.
     let ticked = c.tick.ensures.stays reach stay in
-    heeds_then c.settle.ensures.times (heeds_then c.go_on.ensures.times (heeds_until c.tick.ensures.keeps.clock (heeds_same c.args.self.now.desk.time (same_times ticked.1))))
+    heeds_then c.settle.ensures.times (heeds_then c.go_on.ensures.times (heeds_until c.tick.ensures.keeps.clock (heeds_same c.args.self.now.desk.time (same_times ticked.1 (rests_same c.args.self.now.source c.tick.new.self ticked.0.reach ticked.2)))))
 
 pub returns-then-is_heard-clause-pauses : goal.returns-then-is_heard-clause-pauses
 returns-then-is_heard-clause-pauses g c =
@@ -87,7 +87,7 @@ pub returns-else-was_held-clause-holds : goal.returns-else-was_held-clause-holds
 returns-else-was_held-clause-holds g c =
     λ none some reach stay.
     let ticked = c.tick.ensures.stays reach stay in
-    heeds_then c.settle.ensures.times (heeds_then c.go_on.ensures.times (heeds_until c.tick.ensures.keeps.clock (heeds_same c.args.self.now.desk.time (same_times ticked.1))))
+    heeds_then c.settle.ensures.times (heeds_then c.go_on.ensures.times (heeds_until c.tick.ensures.keeps.clock (heeds_same c.args.self.now.desk.time (same_times ticked.1 (rests_same c.args.self.now.source c.tick.new.self ticked.0.reach ticked.2)))))
 
 pub returns-else-was_held-clause-pauses : goal.returns-else-was_held-clause-pauses
 returns-else-was_held-clause-pauses g c =
@@ -97,3 +97,9 @@ returns-else-was_held-clause-pauses g c =
     let on = c.go_on.ensures.rests rest in
     let settled = c.settle.ensures.rests (subst IsAtRest (sym on.0) rest) in
     (subst (λ s. SameWaiting c.args.self.now.source s) (sym (settled ∙ on.0)) ticked.1, c.settle.ensures.calls ∙ on.1 ∙ ticked.3)
+
+pub returns-then-is_heard-clause-rests : goal.returns-then-is_heard-clause-rests
+returns-then-is_heard-clause-rests g c = λ rest. c.settle.ensures.times.rests (c.go_on.ensures.times.rests (c.tick.ensures.away rest))
+
+pub returns-else-was_held-clause-rests : goal.returns-else-was_held-clause-rests
+returns-else-was_held-clause-rests g c = λ rest. c.settle.ensures.times.rests (c.go_on.ensures.times.rests (c.tick.ensures.away rest))

@@ -1,4 +1,5 @@
-use Rattle.std.proofs.Common.{◌∙◌, sym, ap}
+use Rattle.std.proofs.Common.{◌≡◌, ◌⊎◌, ◌∙◌, sym, ap, subst}
+use Rattle.std.specs.Prelude.{true}
 use Rattle.feed_live.proofs.TurnLemmas.{beside_then, serves_then}
 use Rattle.feed_live.proofs.turn.Live.note.Goals as goal
 
@@ -20,5 +21,9 @@ returns c =
       saved = beside_then c.note_link.ensures.beside.1 c.loop-event.invariant.saved;
       wakes = λ event reach. c.note_link.ensures.wakes event (λ away. reach (sym (ap (λ s. s.reach) c.loop-event.invariant.source) ∙ away));
       rests = λ away more. c.note_link.ensures.rests (ap (λ s. s.reach) c.loop-event.invariant.source ∙ away) (ap (λ s. s.has_more) c.loop-event.invariant.source ∙ more);
+      stays = λ none. ap (λ l. l.source) (c.note_link.ensures.stays none) ∙ c.loop-event.invariant.source;
+      more = λ reach.
+          subst (λ m. (c.note_link.new.self.source.has_more ≡ m) ⊎ (c.note_link.new.self.source.has_more ≡ true)) (ap (λ s. s.has_more) c.loop-event.invariant.source)
+          (c.note_link.ensures.more (λ away. reach (sym (ap (λ s. s.reach) c.loop-event.invariant.source) ∙ away)));
       waits = ap (λ s. s.saying) c.note_link.ensures.beside.2 ∙ c.loop-event.invariant.waits;
     }

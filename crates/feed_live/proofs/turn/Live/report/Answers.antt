@@ -13,5 +13,6 @@ returns-in-Some-clause-serves c =
       waiting = waiting_none c.args.self.now.source;
       heard = refl;
       epoch = refl;
+      rests = λ rest. rest;
       serves = λ nodes shown blank serving. serving_noted c.report.ensures.same serving;
     }

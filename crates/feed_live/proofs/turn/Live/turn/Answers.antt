@@ -1,12 +1,12 @@
-use Rattle.std.proofs.Common.{◌≡◌, ◌<◌, refl, sym, ap, subst, ◌∙◌, ◌++◌}
+use Rattle.std.proofs.Common.{◌≡◌, ◌<◌, inl, refl, sym, ap, subst, ◌∙◌, ◌++◌}
 use Rattle.std.specs.Prelude.{◌⊎◌, Contains, is_some, true, false, None}
 use Rattle.feed_files.specs.Saved.{KeepsFiles}
 use Rattle.feed_live.specs.Ending.{SameBeside, SameSaved}
 use Rattle.feed_files.specs.Input.{StopsInput}
 use Rattle.feed_live.specs.Taking.{bytes_in}
-use Rattle.feed_live.specs.Relaying.{IsToConnect, SameSource, SameWaiting}
-use Rattle.feed_live.specs.Leaving.{IsToLeave, IsToStay}
-use Rattle.feed_live.proofs.TimesLemmas.{keeps_turn, heeds_link_same, stays_awake}
+use Rattle.feed_live.specs.Relaying.{IsToConnect, RestsAway, SameSource, SameWaiting}
+use Rattle.feed_live.specs.Leaving.{IsAtRest, IsToLeave, IsToMove, IsToStay}
+use Rattle.feed_live.proofs.TimesLemmas.{keeps_turn, heeds_turn, heeds_link_same, moves_same, same_times, stays_awake, stays_same}
 use Rattle.feed_screens.proofs.ServingLemmas.{serving_noted}
 use Rattle.feed_live.proofs.TurnLemmas.{waiting_then, beside_then, serves_then, screens_only, relays_on, takes_only, takes_still, asked_then, goes_with, to_connect_same, left_same, begins_same, away_still}
 use Rattle.feed_screens.proofs.OwedLemmas.{owes_what_is_kept}
@@ -81,7 +81,47 @@ returns g c =
       keeps = λ no_feed.
           let apart = c.take_input.ensures.apart (said.feeds ∙ no_feed) in
           let time = apart.1 ∙ ap (λ d. d.time) (c.say_more.ensures.desk ∙ c.note.ensures.desk ∙ c.begin.ensures) in
-          keeps_turn said.waiting apart.0 c.follow.ensures.keeps served.waiting time;
+          keeps_turn (same_times said.waiting said.rests) apart.0 c.follow.ensures.keeps (same_times served.waiting served.rests) time;
+      rests = λ no_feed rest.
+          let apart = c.take_input.ensures.apart (said.feeds ∙ no_feed) in
+          served.rests (c.follow.ensures.rests (subst RestsAway (sym apart.0) (said.rests rest)));
+      holds = λ no_feed goes_on some reach stay.
+          let apart = c.take_input.ensures.apart (said.feeds ∙ no_feed) in
+          let time = apart.1 ∙ ap (λ d. d.time) (c.say_more.ensures.desk ∙ c.note.ensures.desk ∙ c.begin.ensures) in
+          let places = ap (λ s. s.places.items) apart.0 ∙ ap (λ s. s.places) said.source.servers in
+          let idle = c.args.self.now.limits.screens.idle in
+          let more = subst (λ m. (m ≡ c.args.self.now.source.has_more) ⊎ (m ≡ true)) (sym c.say_more.ensures.more) (c.note.ensures.more reach) in
+          heeds_turn (same_times said.waiting said.rests) apart.0
+          (c.follow.ensures.holds (sym (served.ends.1 ∙ c.follow.ensures.ends.1) ∙ goes_on) (λ none. some (sym places ∙ none))
+          (λ away. reach (sym said.waiting.reach ∙ sym (ap (λ s. s.reach) apart.0) ∙ away))
+          (subst (λ l. IsToStay c.take_input.new.self.source l.screens.idle c.take_input.new.self.desk.time) (sym (c.take_input.ensures.ends.limits ∙ said.ends.0))
+          (subst (λ t. IsToStay c.take_input.new.self.source idle t) (sym time)
+          (subst (λ s. IsToStay s idle c.args.now) (sym apart.0) (stays_same idle c.args.now said.source said.waiting said.heard more stay)))))
+          (same_times served.waiting served.rests) time;
+      stays = λ no_feed goes_on reach rest stay none.
+          let apart = c.take_input.ensures.apart (said.feeds ∙ no_feed) in
+          let time = apart.1 ∙ ap (λ d. d.time) (c.say_more.ensures.desk ∙ c.note.ensures.desk ∙ c.begin.ensures) in
+          let idle = c.args.self.now.limits.screens.idle in
+          let more : c.say_more.new.self.source.has_more ≡ c.args.self.now.source.has_more = c.say_more.ensures.more ∙ ap (λ s. s.has_more) (c.note.ensures.stays none) in
+          let waiting = subst (λ s. SameWaiting c.args.self.now.source s) (sym apart.0) said.waiting in
+          let rests : IsAtRest c.take_input.new.self.source = (ap (λ s. s.has_more) apart.0 ∙ more ∙ rest.0, λ reads. rest.1 (sym waiting.reach ∙ reads)) in
+          let stayed = c.follow.ensures.stays (sym (served.ends.1 ∙ c.follow.ensures.ends.1) ∙ goes_on)
+          (λ away. reach (sym waiting.reach ∙ away)) rests
+          (subst (λ l. IsToStay c.take_input.new.self.source l.screens.idle c.take_input.new.self.desk.time) (sym (c.take_input.ensures.ends.limits ∙ said.ends.0))
+          (subst (λ t. IsToStay c.take_input.new.self.source idle t) (sym time)
+          (subst (λ s. IsToStay s idle c.args.now) (sym apart.0) (stays_same idle c.args.now said.source said.waiting said.heard (inl more) stay)))) in
+          (waiting_then served.waiting (waiting_then stayed.0 waiting), stayed.1);
+      moves = λ no_feed goes_on some is none.
+          let apart = c.take_input.ensures.apart (said.feeds ∙ no_feed) in
+          let time = apart.1 ∙ ap (λ d. d.time) (c.say_more.ensures.desk ∙ c.note.ensures.desk ∙ c.begin.ensures) in
+          let places = ap (λ s. s.places.items) apart.0 ∙ ap (λ s. s.places) said.source.servers in
+          let idle = c.args.self.now.limits.screens.idle in
+          let more : c.say_more.new.self.source.has_more ≡ c.args.self.now.source.has_more = c.say_more.ensures.more ∙ ap (λ s. s.has_more) (c.note.ensures.stays none) in
+          away_still served.waiting.reach
+          (c.follow.ensures.moves (sym (served.ends.1 ∙ c.follow.ensures.ends.1) ∙ goes_on) (λ none. some (sym places ∙ none))
+          (subst (λ l. IsToMove c.take_input.new.self.source l.screens.idle c.take_input.new.self.desk.time) (sym (c.take_input.ensures.ends.limits ∙ said.ends.0))
+          (subst (λ t. IsToMove c.take_input.new.self.source idle t) (sym time)
+          (subst (λ s. IsToMove s idle c.args.now) (sym apart.0) (moves_same idle c.args.now said.source said.waiting said.heard more is)))));
       pauses = λ no_feed away more before.
           let apart = c.take_input.ensures.apart (said.feeds ∙ no_feed) in
           let time = apart.1 ∙ ap (λ d. d.time) (c.say_more.ensures.desk ∙ c.note.ensures.desk ∙ c.begin.ensures) in
