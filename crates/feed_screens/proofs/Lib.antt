@@ -8,3 +8,4 @@ pub mod InputLemmas
 pub mod ShutLemmas
 pub mod NotedLemmas
 pub mod GettingLemmas
+pub mod MarkedLemmas

@@ -50,7 +50,7 @@ ahead_next old before new first mid last end so places rest seats log =
     from : (at : ℕ) → end + 1 ≤ at → end ≤ at
     from at past = omega (arith, past)
 
-prefix_same : (old new : Hub) (key : Key) → new.broadcast ≡ old.broadcast → seat_at new.seats.slab key ≡ seat_at old.seats.slab key
+pub prefix_same : (old new : Hub) (key : Key) → new.broadcast ≡ old.broadcast → seat_at new.seats.slab key ≡ seat_at old.seats.slab key
     → prefix_at new key ≡ prefix_at old key
 prefix_same old new key log seat = ap (λ b. prefix_of b.log (seat_at new.seats.slab key)) log ∙ ap (prefix_of old.broadcast.log) seat
 

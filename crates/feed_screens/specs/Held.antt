@@ -57,6 +57,10 @@ woken is_readable is_writable conn =
       is_blocked = if is_writable then false else conn.is_blocked;
     }
 
+-- there is nothing more to read of it
+abbrev pub read_whole : Conn → Conn
+read_whole conn = record conn { has_input = false }
+
 -- the connection is at this phase
 abbrev pub IsAt : Option Conn → Phase → Type 0
 IsAt None phase = ⊥

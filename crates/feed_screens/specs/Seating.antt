@@ -6,6 +6,7 @@ use Rattle.feed_hub.specs.declared.hub.Hub.{Hub}
 use Rattle.feed_hub.specs.declared.seats.Key.{Key}
 use Rattle.feed_screens.specs.declared.conn.Conn.{Conn}
 use Rattle.feed_screens.specs.declared.conn.Phase.{Phase}
+use Rattle.feed_screens.specs.declared.conn.Wait.{Wait}
 use Rattle.feed_screens.specs.declared.screens.Screens.{Screens}
 use Rattle.feed_screens.specs.declared.conn.Phase.TheVariants.{Asks, Watches, Lingers as Lingering}
 use Rattle.feed_screens.specs.Serving.{key_at}
@@ -45,6 +46,18 @@ connected peer now =
 abbrev pub SentEndWithKey : Option Conn → Key → Type 0
 SentEndWithKey None key = ⊥
 SentEndWithKey (Some conn) key = (conn.key ≡ Some key) × (conn.ended ≢ None)
+
+-- when it sent its end: that is noted of a screen, and of a request that waits for room
+abbrev pub end_noted : Phase → Option Wait → ℕ → Option ℕ → Option ℕ
+end_noted Watches wait now before = Some now
+end_noted Asks None now before = before
+end_noted Asks (Some wait) now before = Some now
+end_noted (Lingering until left) None now before = before
+end_noted (Lingering until left) (Some wait) now before = Some now
+
+-- its peer sends no more
+abbrev pub input_ended : ℕ → Conn → Conn
+input_ended now conn = record conn { ended = end_noted conn.phase conn.wait now conn.ended }
 
 -- so it is with a connection
 abbrev pub HasSentEnd : Slab Conn → Key → Type 0

@@ -261,6 +261,12 @@ IsWritable None key = ⊥
 IsWritable (Some conn) key =
     (conn.key ≡ Some key) × (conn.phase ≡ Watching) × (conn.is_blocked ≡ false)
 
+-- something is pending for the connection at a place, which may be written to
+pub record HasPending (screens : Screens) (at : ℕ) : Type 0 where
+  pub key : Key
+  pub writable : IsWritable (get screens.conns at) key
+  pub some : prefix_at screens.hub key ≢ []
+
 -- what sits there once it has what comes next for it
 pub record GetsNext (hub : Hub) (node : NodeState) (has_room : Bool) (now : ℕ) (key : Key)
     (seat : Option Seat) : Type 0 where

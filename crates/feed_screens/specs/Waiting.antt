@@ -1,5 +1,5 @@
 -- Who waits for room, and for how long; and who takes a text so slowly that it is cut for that.
-use Rattle.std.specs.Prelude.{◌≡◌, ◌≢◌, ◌⊎◌, ℕ, ◌<◌, ◌≤◌, ◌+◌, ◌-◌, ◌*◌, ◌^◌, min, Bool, true, false, List, length, Option, Some, None, IfSome}
+use Rattle.std.specs.Prelude.{◌≡◌, ◌≢◌, ◌⊎◌, ℕ, ◌<◌, ◌≤◌, ◌+◌, ◌-◌, ◌*◌, ◌^◌, min, Bool, true, false, List, length, Option, Some, None, IfSome, if◌then◌else◌}
 use Rattle.std.specs.List.{list_any}
 use Rattle.slab.specs.Slab.{Slab, get}
 use Rattle.feed_hub.specs.declared.answering.Answering.{Answering}
@@ -107,6 +107,28 @@ owing length now conn = record conn { owes = length; owed_since = now; took = 0 
 -- it has none to take
 abbrev pub owing_nothing : Conn → Conn
 owing_nothing conn = record conn { owes = 0 }
+
+-- it waits for room no more
+abbrev pub waiting_no_more : Conn → Conn
+waiting_no_more conn = record conn { wait = None }
+
+-- it has this text, which came next: it waits no more, and has yet to take one with a number
+abbrev pub refilled : Option ℕ → List ℕ → ℕ → Conn → Conn
+refilled None text now conn = waiting_no_more conn
+refilled (Some number) text now conn = owing (length text) now (waiting_no_more conn)
+
+-- there is more to write to it, or as before
+abbrev pub having_more : Bool → Conn → Conn
+having_more more conn = record conn { has_more = if conn.has_more then true else more }
+
+-- it took so many bytes more, and is blocked or not
+abbrev pub handed : ℕ → Bool → Conn → Conn
+handed count is_blocked conn =
+    record conn {
+      is_blocked = is_blocked;
+      bytes = min (conn.bytes + count) (2 ^ 64 - 1);
+      took = min (conn.took + count) (2 ^ 64 - 1);
+    }
 
 -- its request was answered so: it waits for room no more
 abbrev pub answered : ℕ → Conn → Conn

@@ -2,7 +2,7 @@
 
 ghost use Rattle.std.specs.Prelude.{◌≡◌, ◌⊎◌, ◌↔◌, ◌+◌, ◌-◌, ◌^◌, ℕ, min, None, Some, IsTrue, IfSome};
 ghost use Rattle.feed_screens.specs.Held.{HasLingered, KeepsInput, woken};
-ghost use Rattle.feed_screens.specs.Seating.{connected, SentEndWithKey, Lingers, lingers_from, lingers_less, HasReadAll};
+ghost use Rattle.feed_screens.specs.Seating.{connected, input_ended, SentEndWithKey, Lingers, lingers_from, lingers_less, HasReadAll};
 ghost use Rattle.feed_screens.specs.Waiting.{HasWaited, TakesSlowly, WantsAnswer, WaitsSince, IsFoundBy, waiting_for, wanted_commit};
 
 use crate::times::{LINGER, PATIENCE, ROOM_TIME, SHARE_TIME};
@@ -218,6 +218,7 @@ impl Conn {
     pub(crate) fn end_input(&mut self, now: u64)
         ensures key { self.new.key ≡ self.old.key }
         ensures phase { self.new.phase ≡ self.old.phase }
+        ensures exact { self.new ≡ input_ended now self.old }
     {
         if self.phase == Phase::Watches || self.wait.is_some() {
             self.ended = Some(now);

@@ -129,6 +129,7 @@ impl Screens {
         ensures counts { self.new.counts ≡ none_counted }
         ensures none { result ≡ None ↔ (self.old.counts ≡ none_counted) }
         ensures some { IfSome result (IsReportOf self.old) }
+        ensures notes { StaysNoted self.old self.new }
     {
         self.is_full = false;
         self.is_stuck = false;
@@ -332,6 +333,11 @@ impl Screens {
         ensures tries { NotCalled (S.tried sockets.old) (S.tried sockets.new) }
         ensures pauses { self.new.accept_at ≡ self.old.accept_at }
         ensures notes { StaysNoted self.old self.new }
+        // and who has something pending then is looked at in the next turn
+        ensures pending { self.old.saying.is_due ≡ true
+            → (at : ℕ) (key : Key) → IsAlone self.old.conns key at
+            → IsWritable (get self.new.conns at) key → prefix_at self.new.hub key ≢ []
+            → self.new.has_more ≡ true }
     {
         if !self.saying.is_due {
             return;

@@ -1,15 +1,16 @@
 //! What they ask: requests are read, heard and answered.
 
-ghost use Rattle.std.specs.Prelude.{◌≡◌, ◌≢◌, ◌⊎◌, ◌↔◌, ◌≤◌, ◌-◌, ℕ, List, None, Some, Ok, Contains, length, option_map, false, IfOk, IfSome, IsTrue};
+ghost use Rattle.std.specs.Prelude.{◌≡◌, ◌≢◌, ◌⊎◌, ◌↔◌, ◌≤◌, ◌-◌, ℕ, List, None, Some, Ok, Contains, length, option_map, true, false, IfOk, IfSome, IsTrue};
 ghost use Rattle.slab.specs.Slab.{get};
 ghost use Rattle.feed_node.specs.States.{NodeState};
 ghost use Rattle.feed_hub.specs.Seats.{seat_at, IsAskingSeat};
 ghost use Rattle.feed_device.specs.Calls.{CalledOnce, NotCalled, OthersNotCalled};
 ghost use Rattle.feed_device.specs.Sockets.{AllSockets};
 ghost use Rattle.feed_screens.specs.Serving.{ServesScreens, StillServing, StillServesAll, StillAnswers};
-ghost use Rattle.feed_screens.specs.Serving.{ServesBut, HasKey, HearsSome, HearsAll, OtherConns, SameSeating, SameKeys, key_at};
+ghost use Rattle.feed_screens.specs.Serving.{ServesBut, HasKey, HasPending, HearsSome, HearsAll, OtherConns, SameSeating, SameKeys, key_at};
 ghost use Rattle.feed_screens.specs.declared.conn.Phase.TheVariants.{Watches};
-ghost use Rattle.feed_screens.specs.Held.{AllKeepInput, KeepsInput, answerer, woken, IsAt, IsToBeRead, SameMirrors, SameBesideConns, Waits};
+ghost use Rattle.feed_screens.specs.Held.{AllKeepInput, KeepsInput, answerer, read_whole, woken, IsAt, IsToBeRead, SameMirrors, SameBesideConns, Waits};
+ghost use Rattle.feed_screens.specs.Seating.{input_ended};
 ghost use Rattle.feed_screens.specs.Waiting.{AnswerWaits, HasMoreAt, HasRoom, IsAnotherNext, StaysNoted, answered};
 
 use crate::conn::Phase;
@@ -61,6 +62,10 @@ impl Screens {
         ensures gone { get self.old.conns at ≡ None → get self.new.conns at ≡ None }
         ensures time { desk.new.time ≡ desk.old.time }
         ensures notes { StaysNoted self.old self.new }
+        // who has more to read or to write then is looked at in the next turn
+        ensures more { HasMoreAt self.new shown.now.is_held shown.now.hold desk.old.time at
+            → self.new.has_more ≡ true }
+        ensures pending { HasPending self.new at → self.new.has_more ≡ true }
     {
         self.read(desk, sockets, answers, shown, at);
         self.drain(desk, sockets, answers.shown.node(), at);
@@ -154,6 +159,7 @@ impl Screens {
         ensures same { SameSeating self.old self.new }
         ensures pauses { self.new.accept_at ≡ self.old.accept_at }
         ensures places { OtherConns self.old.conns self.new.conns at }
+        ensures here { get self.new.conns at ≡ option_map read_whole (get self.old.conns at) }
         ensures notes { StaysNoted self.old self.new }
     {
         if let Some(conn) = self.conns.get_mut(at) {
@@ -195,6 +201,8 @@ impl Screens {
         ensures same { SameSeating self.old self.new }
         ensures phase { (phase : Phase) → IsAt (get self.old.conns at) phase
             → IsAt (get self.new.conns at) phase }
+        ensures here { get self.new.conns at
+            ≡ option_map (λ conn. input_ended now (read_whole conn)) (get self.old.conns at) }
         ensures pauses { self.new.accept_at ≡ self.old.accept_at }
         ensures places { OtherConns self.old.conns self.new.conns at }
         ensures notes { StaysNoted self.old self.new }

@@ -1,17 +1,18 @@
 //! What screens are sent: each is written to once in a turn.
 
-ghost use Rattle.std.specs.Prelude.{◌≡◌, ◌≢◌, ◌⊎◌, ◌↔◌, [], ℕ, Bool, false, true, List, None, Some, Ok, Contains, IsTrue, IfSome, is_err};
+ghost use Rattle.std.specs.Prelude.{◌≡◌, ◌≢◌, ◌⊎◌, ◌↔◌, [], ℕ, Bool, false, true, List, None, Some, Ok, Contains, IsTrue, IfSome, is_err, option_map};
 ghost use Rattle.feed_node.specs.States.{NodeState};
 ghost use Rattle.feed_hub.specs.Hub.{prefix_at};
-ghost use Rattle.feed_hub.specs.Seats.{seat_at};
+ghost use Rattle.feed_hub.specs.Seats.{IsWatcher, seat_at};
+ghost use Rattle.feed_hub.specs.Steps.{IsCatchingUp};
 ghost use Rattle.feed_device.specs.Calls.{CalledOnce, NotCalled, OthersNotCalled};
 ghost use Rattle.slab.specs.Slab.{get};
 ghost use Rattle.feed_screens.specs.declared.conn.Phase.TheVariants.{Asks};
 ghost use Rattle.feed_screens.specs.Held.{KeepsInput, IsAt};
 ghost use Rattle.feed_screens.specs.Seating.{lingers_from};
 ghost use Rattle.feed_screens.specs.Serving.{StillServing, StillServesFrom, StillServes, SameSeating};
-ghost use Rattle.feed_screens.specs.Waiting.{HasMadeMost, HasRoom, IsAnotherNext, StaysNoted, WantsCommit};
-ghost use Rattle.feed_screens.specs.Serving.{GetsNext, HasKey, IsAlone, IsAtEnd, IsAtEndThen, ReachesEnd, TookAll, OtherConns, SameKeys, LeavesSeat, IsWritable, key_at, keyless};
+ghost use Rattle.feed_screens.specs.Waiting.{HasMadeMost, HasMoreToWrite, HasRoom, IsAnotherNext, StaysNoted, WantsCommit, handed, having_more, refilled, waiting_for};
+ghost use Rattle.feed_screens.specs.Serving.{GetsNext, HasKey, HasPending, IsAlone, IsAtEnd, IsAtEndThen, ReachesEnd, TookAll, OtherConns, SameKeys, LeavesSeat, IsWritable, key_at, keyless};
 
 use crate::conn::{Phase, Wanted};
 use crate::hand::hand;
@@ -42,6 +43,7 @@ impl Screens {
         ensures places { OtherConns self.old.conns self.new.conns at }
         ensures asks { IsAt (get self.old.conns at) Asks → result ≡ None }
         ensures some { (key : Key) → IsWritable (get self.old.conns at) key → result ≡ Some key }
+        ensures none { result ≡ None → (key : Key) → ¬ (IsWritable (get self.new.conns at) key) }
         ensures pauses { self.new.accept_at ≡ self.old.accept_at }
         ensures input { KeepsInput (get self.old.conns at) (get self.new.conns at) }
         ensures notes { StaysNoted self.old self.new }
@@ -84,6 +86,12 @@ impl Screens {
         ensures input { KeepsInput (get self.old.conns at) (get self.new.conns at) }
         ensures time { desk.new.time ≡ desk.old.time }
         ensures notes { StaysNoted self.old self.new }
+        // what it just got is offered, too
+        ensures gets { (key : Key) → IsWritable (get self.old.conns at) key
+            → CalledOnce (S.offered sockets.old at) (S.offered sockets.new at)
+            ⊎ (key_at self.new.conns at ≡ Some (Some key) → prefix_at self.new.hub key ≡ []) }
+        // who has something pending then is marked
+        ensures more { HasPending self.new at → HasMoreToWrite (get self.new.conns at) }
     {
         let Some(key) = self.writable(at) else {
             return;
@@ -118,6 +126,9 @@ impl Screens {
         ensures input { KeepsInput (get self.old.conns keyed.at) (get self.new.conns keyed.at) }
         ensures time { desk.new.time ≡ desk.old.time }
         ensures notes { StaysNoted self.old self.new }
+        // who has something pending then is marked
+        ensures more { HasKey self.old.conns keyed → HasPending self.new keyed.at
+            → HasMoreToWrite (get self.new.conns keyed.at) }
     {
         match self.write_once(sockets, keyed, desk.time) {
             Ok(true) => {
@@ -132,6 +143,8 @@ impl Screens {
     pub(crate) fn has_more_to_write(&mut self, at: usize, has_more: bool)
         ensures same { SameSeating self.old self.new }
         ensures places { OtherConns self.old.conns self.new.conns at }
+        ensures here { get self.new.conns at
+            ≡ option_map (having_more has_more) (get self.old.conns at) }
         ensures pauses { self.new.accept_at ≡ self.old.accept_at }
         ensures input { KeepsInput (get self.old.conns at) (get self.new.conns at) }
         ensures notes { StaysNoted self.old self.new }
@@ -185,12 +198,17 @@ impl Screens {
         ensures pauses { self.new.accept_at ≡ self.old.accept_at }
         ensures input { KeepsInput (get self.old.conns keyed.at) (get self.new.conns keyed.at) }
         ensures notes { StaysNoted self.old self.new }
-        // who has nothing pending, and stays, has what comes next; but for who waits for a commit
+        // who has nothing pending, and stays, has what comes next; or waits for a commit, or is marked
         ensures gets { HasKey self.old.conns keyed → prefix_at self.old.hub keyed.key ≡ []
             → HasKey self.new.conns keyed → WantsCommit (get self.old.conns keyed.at)
-            ⊎ (HasMadeMost self.old ⊎ ((has_room : Bool)
+            ⊎ ((HasMadeMost self.old × HasMoreToWrite (get self.new.conns keyed.at))
+            ⊎ ((has_room : Bool)
             × GetsNext self.old.hub node.now.shown has_room desk.old.time keyed.key
             (seat_at self.new.hub.seats.slab keyed.key))) }
+        // where there is nothing to write, nothing is pending for who stays
+        ensures none { HasKey self.old.conns keyed → result ≡ false
+            → (key : Key) → key_at self.new.conns keyed.at ≡ Some (Some key)
+            → prefix_at self.new.hub key ≡ [] }
     {
         if !self.hub.prefix(keyed.key).is_empty() {
             return true;
@@ -250,6 +268,9 @@ impl Screens {
     fn is_refilled(&mut self, keyed: Keyed, number: Option<u64>, now: u64) -> Result<(), AllocError>
         ensures same { SameSeating self.old self.new }
         ensures places { OtherConns self.old.conns self.new.conns keyed.at }
+        ensures here { get self.new.conns keyed.at
+            ≡ option_map (refilled number (prefix_at self.old.hub keyed.key) now)
+            (get self.old.conns keyed.at) }
         ensures pauses { self.new.accept_at ≡ self.old.accept_at }
         ensures input { KeepsInput (get self.old.conns keyed.at) (get self.new.conns keyed.at) }
         ensures notes { StaysNoted self.old self.new }
@@ -268,6 +289,10 @@ impl Screens {
     fn wait_for_commit(&mut self, keyed: Keyed, length: usize, now: u64)
         ensures same { SameSeating self.old self.new }
         ensures places { OtherConns self.old.conns self.new.conns keyed.at }
+        ensures waits { IsWatcher (λ s. IsCatchingUp s.way)
+            (seat_at self.old.hub.seats.slab keyed.key) → get self.new.conns keyed.at
+            ≡ option_map (waiting_for (Wanted.Commit length self.old.hub.frames.next) now)
+            (get self.old.conns keyed.at) }
         ensures pauses { self.new.accept_at ≡ self.old.accept_at }
         ensures input { KeepsInput (get self.old.conns keyed.at) (get self.new.conns keyed.at) }
         ensures notes { StaysNoted self.old self.new }
@@ -347,6 +372,9 @@ impl Screens {
         ensures rest { OthersNotCalled (S.offered sockets.old) (S.offered sockets.new) keyed.at }
         ensures tries { NotCalled (S.tried sockets.old) (S.tried sockets.new) }
         ensures took { result ≡ Ok true → TookAll self.old.hub self.new.hub now keyed.key }
+        // a connection that took less is blocked
+        ensures blocked { result ≡ Ok false
+            → IfSome (get self.new.conns keyed.at) (λ conn. conn.is_blocked ≡ true) }
         ensures pauses { self.new.accept_at ≡ self.old.accept_at }
         ensures input { KeepsInput (get self.old.conns keyed.at) (get self.new.conns keyed.at) }
         ensures notes { StaysNoted self.old self.new }
@@ -366,6 +394,8 @@ impl Screens {
     fn is_handed(&mut self, at: usize, count: usize, is_blocked: bool)
         ensures same { SameSeating self.old self.new }
         ensures places { OtherConns self.old.conns self.new.conns at }
+        ensures here { get self.new.conns at
+            ≡ option_map (handed count is_blocked) (get self.old.conns at) }
         ensures pauses { self.new.accept_at ≡ self.old.accept_at }
         ensures input { KeepsInput (get self.old.conns at) (get self.new.conns at) }
         ensures notes { StaysNoted self.old self.new }
@@ -389,6 +419,13 @@ impl Screens {
         ensures tries { NotCalled (S.tried sockets.old) (S.tried sockets.new) }
         ensures pauses { self.new.accept_at ≡ self.old.accept_at }
         ensures notes { StaysNoted self.old self.new }
+        // whoever is marked is looked at in the next turn
+        ensures more { (at : ℕ) → HasMoreToWrite (get self.new.conns at)
+            → self.new.has_more ≡ true }
+        // and so is who has something pending
+        ensures pending { (at : ℕ) (key : Key) → IsAlone self.old.conns key at
+            → IsWritable (get self.new.conns at) key → prefix_at self.new.hub key ≢ []
+            → self.new.has_more ≡ true }
     {
         for at in 0..self.conns.capacity() {
             self.drain(desk, sockets, node, at);

@@ -12,7 +12,7 @@ ghost use Rattle.feed_screens.specs.Serving.{StillServesAll, StillAnswers, Still
 ghost use Rattle.feed_screens.specs.Serving.{ServesBut, HasKey, HearsAll, OtherConns, SameKeys};
 ghost use Rattle.feed_screens.specs.Held.{AllKeepInput, KeepsInput, SameMirrors};
 ghost use Rattle.feed_screens.specs.Waiting.{HasNotWaited, IsOverdue, IsSlow, HoldsUp, RefusesOne};
-ghost use Rattle.feed_screens.specs.Waiting.{AnswerWaits, HasRoom, IsAnotherNext, IsNext, IsFollowed, IsOverdueAt, IsTurnOf, IsWaiting, LacksRoom, MayShare, StaysNoted, WaitsSince, owing, owing_nothing, WantsCommit, waiting_for};
+ghost use Rattle.feed_screens.specs.Waiting.{AnswerWaits, HasRoom, IsAnotherNext, IsNext, IsFollowed, IsOverdueAt, IsTurnOf, IsWaiting, LacksRoom, MayShare, StaysNoted, WaitsSince, owing, owing_nothing, WantsCommit, waiting_for, waiting_no_more};
 
 use crate::conn::Wanted;
 use crate::screens::{Answers, Hearing, Keyed, Screens, Shown, TextId};
@@ -111,6 +111,8 @@ impl Screens {
     pub(crate) fn end_wait(&mut self, at: usize)
         ensures same { SameSeating self.old self.new }
         ensures places { OtherConns self.old.conns self.new.conns at }
+        ensures here { get self.new.conns at
+            ≡ option_map waiting_no_more (get self.old.conns at) }
         ensures pauses { self.new.accept_at ≡ self.old.accept_at }
         ensures input { KeepsInput (get self.old.conns at) (get self.new.conns at) }
         ensures notes { StaysNoted self.old self.new }

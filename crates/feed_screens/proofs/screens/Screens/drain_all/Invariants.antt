@@ -5,6 +5,7 @@ use Rattle.feed_node.specs.States.{NodeState}
 use Rattle.feed_screens.specs.Serving.{StillServing}
 use Rattle.feed_screens.specs.Waiting.{StaysNoted}
 use Rattle.feed_screens.proofs.OfferLemmas.{HaveBeenOffered, AreAhead}
+use Rattle.feed_screens.proofs.MarkedLemmas.{AreAwaited, AreNoted}
 use Rattle.feed_screens.proofs.screens.Screens.drain_all.Given as goal
 
 abbrev pub invariant-loop-at : goal.invariant-loop-at
@@ -17,5 +18,7 @@ invariant-loop-at g l =
       offered : HaveBeenOffered l.initial.self (g.S.Sockets.offered l.initial.sockets) (g.S.Sockets.offered l.sockets) l.at;
       ahead : AreAhead l.initial.self l.self (g.S.Sockets.offered l.initial.sockets) (g.S.Sockets.offered l.sockets) l.at;
       notes : StaysNoted l.initial.self l.self;
+      noted : AreNoted l.self l.at;
+      awaited : AreAwaited l.initial.self.conns l.self l.at;
       pauses : l.self.accept_at ≡ l.initial.self.accept_at;
     }

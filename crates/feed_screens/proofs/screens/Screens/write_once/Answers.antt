@@ -29,6 +29,7 @@ returns-in-Err g c =
       rest = c.hand.ensures.unoffered;
       tries = c.hand.ensures.tries;
       took = λ took. absurd (cc);
+      blocked = λ no. absurd (cc);
       pauses = refl;
       notes = record { has_more = λ is. is; is_waited = λ is. is; is_waited_for = λ is. is };
       input = keeps_same _;
