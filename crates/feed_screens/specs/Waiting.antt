@@ -1,14 +1,18 @@
 -- Who waits for room, and for how long; and who takes a text so slowly that it is cut for that.
-use Rattle.std.specs.Prelude.{◌≡◌, ◌≢◌, ◌⊎◌, ℕ, ◌<◌, ◌≤◌, ◌+◌, ◌-◌, ◌*◌, ◌^◌, min, Bool, true, false, List, length, Option, Some, None, IfSome, if◌then◌else◌}
+use Rattle.std.specs.Prelude.{◌≡◌, ◌≢◌, ◌⊎◌, ℕ, ◌<◌, ◌≤◌, ◌+◌, ◌-◌, ◌*◌, ◌^◌, min, Bool, true, false, List, length, Option, Some, None, IfSome, option_map, if◌then◌else◌}
 use Rattle.std.specs.List.{list_any}
 use Rattle.slab.specs.Slab.{Slab, get}
 use Rattle.feed_hub.specs.declared.answering.Answering.{Answering}
 use Rattle.feed_hub.specs.declared.hub.Hub.{Hub}
+use Rattle.feed_hub.specs.declared.screen.Refill.{Refill}
+use Rattle.feed_hub.specs.declared.screen.Refill.TheVariants.{Goes, Waits}
 use Rattle.feed_hub.specs.declared.seats.Key.{Key}
 use Rattle.feed_hub.specs.declared.seats.Seat.{Seat}
 use Rattle.feed_hub.specs.Frames.{is_since}
-use Rattle.feed_hub.specs.Hub.{HoldsAt, TellsTextAt}
-use Rattle.feed_hub.specs.Seats.{seat_at, IsAskingSeat}
+use Rattle.feed_hub.specs.Hub.{HoldsAt, Refills, TellsTextAt, prefix_at}
+use Rattle.feed_hub.specs.Seats.{seat_at, IsAskingSeat, IsWatcher, Watched}
+use Rattle.feed_hub.specs.Steps.{IsCatchingUp}
+use Rattle.feed_node.specs.States.{NodeState}
 use Rattle.feed_screens.specs.declared.conn.Conn.{Conn}
 use Rattle.feed_screens.specs.declared.conn.Phase.TheVariants.{Watches}
 use Rattle.feed_screens.specs.declared.conn.Wait.{Wait}
@@ -240,6 +244,27 @@ pub record StaysNoted (old new : Screens) : Type 0 where
   pub has_more : old.has_more ≡ true → new.has_more ≡ true
   pub is_waited : old.is_waited ≡ true → new.is_waited ≡ true
   pub is_waited_for : old.is_waited_for ≡ true → new.is_waited_for ≡ true
+
+-- The connection of a screen that got this: it waits no more, and has that to take; or it waits for
+-- that, while it catches up.
+abbrev pub IsMarkedFor : Refill → Hub → Key → ℕ → Option Conn → Option Conn → Type 0
+IsMarkedFor (Goes number) hub key now old new =
+    new ≡ option_map (refilled number (prefix_at hub key) now) old
+IsMarkedFor (Waits length) hub key now old new =
+    (IsWatcher (λ s. IsCatchingUp s.way) (seat_at hub.seats.slab key)
+    → new ≡ option_map (waiting_for (Commit length hub.frames.next) now) old)
+    × (¬ (IsWatcher (λ s. IsCatchingUp s.way) (seat_at hub.seats.slab key))
+    → new ≡ option_map waiting_no_more old)
+
+-- a screen got what comes next, or waits for it, and its connection is marked so
+pub record MarksWhatCame (old new : Screens) (node : NodeState) (now : ℕ) (keyed : Keyed)
+    : Type 0 where
+  pub got : Refill
+  pub has_room : Bool
+  pub next : Watched (Refills old.hub.broadcast node has_room now got)
+      (seat_at old.hub.seats.slab keyed.key) (seat_at new.hub.seats.slab keyed.key)
+  pub marked : IsMarkedFor got new.hub keyed.key now (get old.conns keyed.at)
+      (get new.conns keyed.at)
 
 -- no more is made in this turn for those who catch up: 16 MiB were
 abbrev pub HasMadeMost : Screens → Type 0

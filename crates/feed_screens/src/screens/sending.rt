@@ -11,7 +11,7 @@ ghost use Rattle.feed_screens.specs.declared.conn.Phase.TheVariants.{Asks};
 ghost use Rattle.feed_screens.specs.Held.{KeepsInput, IsAt};
 ghost use Rattle.feed_screens.specs.Seating.{lingers_from};
 ghost use Rattle.feed_screens.specs.Serving.{StillServing, StillServesFrom, StillServes, SameSeating};
-ghost use Rattle.feed_screens.specs.Waiting.{HasMadeMost, HasMoreToWrite, HasRoom, IsAnotherNext, StaysNoted, WantsCommit, handed, having_more, refilled, waiting_for};
+ghost use Rattle.feed_screens.specs.Waiting.{HasMadeMost, HasMoreToWrite, HasRoom, IsAnotherNext, MarksWhatCame, StaysNoted, WantsCommit, handed, having_more, refilled, waiting_for, waiting_no_more};
 ghost use Rattle.feed_screens.specs.Serving.{GetsNext, HasKey, HasPending, IsAlone, IsAtEnd, IsAtEndThen, ReachesEnd, TookAll, OtherConns, SameKeys, LeavesSeat, IsWritable, key_at, keyless};
 
 use crate::conn::{Phase, Wanted};
@@ -198,7 +198,7 @@ impl Screens {
         ensures pauses { self.new.accept_at ≡ self.old.accept_at }
         ensures input { KeepsInput (get self.old.conns keyed.at) (get self.new.conns keyed.at) }
         ensures notes { StaysNoted self.old self.new }
-        // who has nothing pending, and stays, has what comes next; or waits for a commit, or is marked
+        // who stays with nothing pending gets what comes next, waits for a commit, or is marked
         ensures gets { HasKey self.old.conns keyed → prefix_at self.old.hub keyed.key ≡ []
             → HasKey self.new.conns keyed → WantsCommit (get self.old.conns keyed.at)
             ⊎ ((HasMadeMost self.old × HasMoreToWrite (get self.new.conns keyed.at))
@@ -247,6 +247,13 @@ impl Screens {
             × (has_room ≡ false → HasRoom self.old → IsAnotherNext self.old.conns keyed.at)
             × GetsNext self.old.hub node.now.shown has_room desk.now.time keyed.key
             (seat_at self.new.hub.seats.slab keyed.key) }
+        // and its connection is marked so
+        ensures marks { is_err result ≡ false
+            → MarksWhatCame self.old self.new node.now.shown desk.now.time keyed }
+        // where there is no room, no long text is made
+        ensures room { is_err result ≡ false → ¬ (HasRoom self.old)
+            → GetsNext self.old.hub node.now.shown false desk.now.time keyed.key
+            (seat_at self.new.hub.seats.slab keyed.key) }
         ensures pauses { self.new.accept_at ≡ self.old.accept_at }
         ensures input { KeepsInput (get self.old.conns keyed.at) (get self.new.conns keyed.at) }
         ensures notes { StaysNoted self.old self.new }
@@ -293,6 +300,9 @@ impl Screens {
             (seat_at self.old.hub.seats.slab keyed.key) → get self.new.conns keyed.at
             ≡ option_map (waiting_for (Wanted.Commit length self.old.hub.frames.next) now)
             (get self.old.conns keyed.at) }
+        ensures ends { ¬ (IsWatcher (λ s. IsCatchingUp s.way)
+            (seat_at self.old.hub.seats.slab keyed.key)) → get self.new.conns keyed.at
+            ≡ option_map waiting_no_more (get self.old.conns keyed.at) }
         ensures pauses { self.new.accept_at ≡ self.old.accept_at }
         ensures input { KeepsInput (get self.old.conns keyed.at) (get self.new.conns keyed.at) }
         ensures notes { StaysNoted self.old self.new }
@@ -375,6 +385,9 @@ impl Screens {
         // a connection that took less is blocked
         ensures blocked { result ≡ Ok false
             → IfSome (get self.new.conns keyed.at) (λ conn. conn.is_blocked ≡ true) }
+        // and no other one
+        ensures ready { result ≡ Ok true
+            → IfSome (get self.new.conns keyed.at) (λ conn. conn.is_blocked ≡ false) }
         ensures pauses { self.new.accept_at ≡ self.old.accept_at }
         ensures input { KeepsInput (get self.old.conns keyed.at) (get self.new.conns keyed.at) }
         ensures notes { StaysNoted self.old self.new }

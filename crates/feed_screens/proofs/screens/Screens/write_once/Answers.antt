@@ -30,6 +30,7 @@ returns-in-Err g c =
       tries = c.hand.ensures.tries;
       took = λ took. absurd (cc);
       blocked = λ no. absurd (cc);
+      ready = λ no. absurd (cc);
       pauses = refl;
       notes = record { has_more = λ is. is; is_waited = λ is. is; is_waited_for = λ is. is };
       input = keeps_same _;
