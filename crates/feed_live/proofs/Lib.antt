@@ -1,6 +1,7 @@
 pub mod SourceLemmas
 pub mod StateLemmas
 pub mod RelayLemmas
+pub mod CallingLemmas
 pub mod TimesLemmas
 pub mod TurnLemmas
 pub mod ScreenLemmas

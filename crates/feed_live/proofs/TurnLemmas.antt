@@ -30,7 +30,7 @@ use Rattle.feed_live.specs.declared.turn.Input.TheVariants.{End}
 use Rattle.feed_live.specs.declared.turn.Live.{Live}
 use Rattle.feed_live.specs.Answering.{has_heard}
 use Rattle.feed_live.specs.Ending.{SameBeside}
-use Rattle.feed_live.specs.Relaying.{pursuit, pursuit_of, MayFollow, AnswersFromLog, FollowsServers, IsRelaying, SameSource, SameWaiting, OnlyServes, GoesOn, IsToConnect, followed_by, screen_side, within_turn}
+use Rattle.feed_live.specs.Relaying.{pursuit, pursuit_of, MayFollow, AnswersFromLog, FollowsServers, IsRelaying, SameSource, SameWaiting, MayHaveMore, OnlyServes, GoesOn, IsToConnect, followed_by, screen_side, within_turn}
 use Rattle.feed_screens.specs.Serving.{ServesScreens, StillServing}
 use Rattle.feed_live.specs.States.{states_of}
 use Rattle.feed_live.specs.Taking.{IsTakingInput, ShowsInput, BeginsInput}
@@ -146,9 +146,17 @@ heard_same {a} {b} same is =
     ∙ ap (λ c. a.is_heard && not (is_some c && is_none (published_token b.answers.shown.mirror.node))) same.coming
     ∙ ap (λ m. a.is_heard && not (is_some a.coming && is_none (published_token m.node))) same.shown
 
+more_then : (a b c : Source) → c.reach ≡ b.reach → MayHaveMore b c → MayHaveMore a b → MayHaveMore a c
+more_then a b c same two one there = by (two there) (one (λ away. there (same ∙ away)))
+  where
+    by : (c.has_more ≡ b.has_more) ⊎ (c.has_more ≡ true) → (b.has_more ≡ a.has_more) ⊎ (b.has_more ≡ true) → (c.has_more ≡ a.has_more) ⊎ (c.has_more ≡ true)
+    by (inr more) was = inr more
+    by (inl still) (inl is) = inl (still ∙ is)
+    by (inl still) (inr more) = inr (still ∙ more)
+
 pub serves_none : (live : Live) (sockets : AllSockets) → OnlyServes live live sockets sockets
 serves_none live sockets =
-    record { contest = refl; ends = (refl, refl); feeds = refl; source = same_none live.source; waiting = waiting_none live.source; heard = refl; epoch = refl; rests = λ rest. rest; serves = λ nodes shown blank serving. serving }
+    record { contest = refl; ends = (refl, refl); feeds = refl; source = same_none live.source; waiting = waiting_none live.source; heard = refl; epoch = refl; rests = λ rest. rest; more = λ there. inl refl; serves = λ nodes shown blank serving. serving }
 
 pub serves_then : {a b c : Live} {before between after : AllSockets} → OnlyServes b c between after → OnlyServes a b before between → OnlyServes a c before after
 serves_then {a} {b} {c} {before} {between} {after} two one =
@@ -161,6 +169,7 @@ serves_then {a} {b} {c} {before} {between} {after} two one =
       heard = two.heard ∙ one.heard;
       epoch = two.epoch ∙ one.epoch;
       rests = λ rest. two.rests (one.rests rest);
+      more = more_then a.source b.source c.source two.source.reach two.more one.more;
       serves = λ nodes shown blank serving.
           let later : StillServing nodes (string_bytes b.contest) b.screens c.screens between after =
           two.serves nodes (subst (λ m. Contains nodes m.node) (sym one.source.shown) shown) (λ none. subst (λ m. Contains nodes m.node) (sym one.source.blank) (blank (sym (heard_same one.source one.heard) ∙ none))) in
@@ -176,7 +185,7 @@ pub screens_only : (live : Live) (screens : Screens) (desk : Desk) {before after
     → ((nodes : List NodeState) → Contains nodes live.source.answers.shown.mirror.node → (has_heard live.source ≡ false → Contains nodes live.source.answers.blank.mirror.node)
     → StillServing nodes (string_bytes live.contest) live.screens screens before after)
     → OnlyServes live (record live { screens = screens; desk = desk }) before after
-screens_only live screens desk serves = record { contest = refl; ends = (refl, refl); feeds = refl; source = same_none live.source; waiting = waiting_none live.source; heard = refl; epoch = refl; rests = λ rest. rest; serves = serves }
+screens_only live screens desk serves = record { contest = refl; ends = (refl, refl); feeds = refl; source = same_none live.source; waiting = waiting_none live.source; heard = refl; epoch = refl; rests = λ rest. rest; more = λ there. inl refl; serves = serves }
 
 module _ (limits : Limits) (log : Log) where
   -- its feed is its input

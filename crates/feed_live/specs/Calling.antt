@@ -1,5 +1,5 @@
 -- What a relay does with its connection to a server, once an event came for it.
-use Rattle.std.specs.Prelude.{◌≡◌, ◌≢◌, ◌⊎◌, ℕ, ◌+◌, [], drop, Bool, true, false, Option, None, Result, Ok, Err}
+use Rattle.std.specs.Prelude.{◌≡◌, ◌≢◌, ◌⊎◌, ℕ, ◌+◌, List, [], ◌∷◌, ◌++◌, drop, Bool, true, false, Option, None, option_map, Result, Ok, Err}
 use Rattle.feed_device.specs.Calls.{Answers, LinkCalls, HasAnswered, AnsweredAtLeastOnce}
 use Rattle.feed_device.specs.declared.device.Stop.{Stop}
 use Rattle.feed_device.specs.declared.device.Stop.TheVariants.{Waits}
@@ -31,7 +31,8 @@ pub record HeedsLink (source : Source) (waits : Option ℕ) (old new : LinkCalls
 
 -- A connection that is open is asked, one that isn't yet is waited for, and one that failed is left
 -- for the next server.
-pub record AsLooked (answer : Result Bool Stop) (goes_on : Bool) (old new : Source) (now : ℕ) : Type 0 where
+pub record AsLooked (answer : Result Bool Stop) (goes_on : Bool) (old new : Source) (now : ℕ)
+    : Type 0 where
   pub opens : answer ≡ Ok true → (goes_on ≡ true) × (new ≡ record old { reach = Asks 0 })
   pub waits : answer ≡ Ok false → (goes_on ≡ false) × (new ≡ old)
   pub fails : (stop : Stop) → answer ≡ Err stop
@@ -39,8 +40,8 @@ pub record AsLooked (answer : Result Bool Stop) (goes_on : Bool) (old new : Sour
 
 -- What was written of the request counts. A server that can't take more now is waited for. One that
 -- takes nothing is left for the next, as one that fails.
-pub record AsWritten (answer : Result ℕ Stop) (count : ℕ) (goes_on : Bool) (old new : Source) (now : ℕ)
-    : Type 0 where
+pub record AsWritten (answer : Result ℕ Stop) (count : ℕ) (goes_on : Bool) (old new : Source)
+    (now : ℕ) : Type 0 where
   pub took : (more : ℕ) → answer ≡ Ok more → more ≢ 0
       → (goes_on ≡ true) × (new ≡ record old { reach = Asks (count + more) })
   pub waits : answer ≡ Err Waits → (goes_on ≡ false) × (new ≡ old)
@@ -64,6 +65,10 @@ HadToWait answers = (before : Answers ℕ) × HasAnswered (Err Waits) before ans
 abbrev pub MarksMore : Source → Answers ℕ → Type 0
 MarksMore source answers = source.reach ≡ Reads → (source.has_more ≡ true) ⊎ HadToWait answers
 
+-- where a response is read, it was before, and as much is marked as left to be read
+abbrev pub ReadsAsBefore : Source → Source → Type 0
+ReadsAsBefore old new = new.reach ≡ Reads → (old.reach ≡ Reads) × (new.has_more ≡ old.has_more)
+
 -- as long as a request is written, no more of it was taken
 abbrev pub AsksAll : Source → Answers ℕ → Type 0
 AsksAll source answers = (count : ℕ) → source.reach ≡ Asks count → HadToWait answers
@@ -79,3 +84,46 @@ abbrev pub TakesWhatCame : Source → Source → Option ℕ → Type 0
 TakesWhatCame old new waits =
     (new.reach ≡ Away)
     ⊎ ((new.reach ≡ old.reach) × ((waits ≢ None) ⊎ (new.rest.items ≡ old.rest.items)))
+
+-- No connection is begun, and nothing is read. As long as the server isn't left, what is kept
+-- stays.
+pub record ReadsNothing (old new : Source) (before after : LinkCalls) : Type 0 where
+  pub begun : after.begun ≡ before.begun
+  pub read : after.read ≡ before.read
+  pub kept : new.reach ≢ Away → new.rest.items ≡ old.rest.items
+
+-- ---- for what a server is left
+
+-- a server is left for this alone
+abbrev pub LeavesOnlyFor : Type 0 → Source → Source → Type 0
+LeavesOnlyFor reason old new = new.reach ≡ Away → (old.reach ≡ Away) ⊎ reason
+
+-- the device was called, and this is what it answered last
+abbrev pub HasAnsweredLast : {A : Type 0} → Result A Stop → Answers A → Answers A → Type 0
+HasAnsweredLast {A} answer old new =
+    (more : List (Result A Stop)) × (new ≡ option_map (λ all. (answer ∷ more) ++ all) old)
+
+-- the connection can't be made
+abbrev pub FailsToConnect : Answers Bool → Answers Bool → Type 0
+FailsToConnect old new = (stop : Stop) × HasAnswered (Err stop) old new
+
+-- a write broke: nothing was taken, and it didn't have to wait
+abbrev pub IsBreak : Result ℕ Stop → Type 0
+IsBreak (Ok count) = count ≡ 0
+IsBreak (Err stop) = stop ≢ Waits
+
+-- the connection broke while the request was written
+abbrev pub HasBroken : Answers ℕ → Answers ℕ → Type 0
+HasBroken old new = (answer : Result ℕ Stop) × IsBreak answer × HasAnsweredLast answer old new
+
+-- the last read didn't have to wait: it gave some of the response, or its end, or failed
+abbrev pub ReadAtOnce : Answers ℕ → Answers ℕ → Type 0
+ReadAtOnce old new =
+    (answer : Result ℕ Stop) × (answer ≢ Err Waits) × HasAnsweredLast answer old new
+
+-- Why a server is left once an event came for its connection: that can't be made, or broke while the
+-- request was written; or for what came of the response, now or before, or since a read failed.
+abbrev pub HasCause : Source → LinkCalls → LinkCalls → Type 0
+HasCause source old new =
+    FailsToConnect old.looked new.looked ⊎ HasBroken old.written new.written
+    ⊎ ReadAtOnce old.read new.read ⊎ (source.rest.items ≢ [])

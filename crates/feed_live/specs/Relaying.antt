@@ -1,6 +1,6 @@
 -- THE PROMISE of a relay that follows servers: what it shows, and what each socket was handed, is
 -- of the primary's log, as long as the servers are honest.
-use Rattle.std.specs.Prelude.{◌≡◌, ◌⊎◌, ℕ, ◌<◌, ◌≤◌, Bool, false, true, List, [], ◌∷◌, ◌++◌, length, take, Option, Some, None, option_map, is_none, IsSome, Contains, string_bytes}
+use Rattle.std.specs.Prelude.{◌≡◌, ◌≢◌, ◌⊎◌, ℕ, ◌<◌, ◌≤◌, Bool, false, true, List, [], ◌∷◌, ◌++◌, length, take, Option, Some, None, option_map, is_none, IsSome, Contains, string_bytes}
 use Rattle.slab.specs.Slab.{Slab}
 use Rattle.feed_settings.specs.Limits.{Limits}
 use Rattle.feed_node.specs.Mirroring.{MirrorState}
@@ -339,6 +339,11 @@ pub record ShowsAlone (old new : Source) : Type 0 where
 abbrev pub SameEnd : Live → Live → Type 0
 SameEnd old new = (new.limits ≡ old.limits) × (new.ends_at ≡ old.ends_at)
 
+-- where there is a connection, as much of it may be left to be read as before, or more
+abbrev pub MayHaveMore : Source → Source → Type 0
+MayHaveMore old new =
+    new.reach ≢ Away → (new.has_more ≡ old.has_more) ⊎ (new.has_more ≡ true)
+
 -- Only screens were served, from what the relay shows; and until a server was heard, from what
 -- shows nothing. All else is as it was.
 pub record OnlyServes (old new : Live) (before after : AllSockets) : Type 0 where
@@ -350,6 +355,7 @@ pub record OnlyServes (old new : Live) (before after : AllSockets) : Type 0 wher
   pub heard : new.source.is_heard ≡ old.source.is_heard
   pub epoch : new.source.epoch ≡ old.source.epoch
   pub rests : RestsAway old.source → RestsAway new.source
+  pub more : MayHaveMore old.source new.source
   pub serves : (nodes : List NodeState) → Contains nodes old.source.answers.shown.mirror.node
       → (has_heard old.source ≡ false → Contains nodes old.source.answers.blank.mirror.node)
       → StillServing nodes (string_bytes old.contest) old.screens new.screens before after

@@ -5,12 +5,14 @@ ghost use Rattle.feed_hub.specs.Upstream.{later};
 ghost use Rattle.feed_device.specs.declared.device.Stop.TheVariants.{Waits};
 ghost use Rattle.feed_live.specs.Leaving.{LooksInTime, IsBy, heard_time};
 
+mod asking;
 mod connecting;
 mod input;
 mod rate;
 mod reading;
 mod rechecking;
 mod returning;
+mod saying;
 mod settling;
 
 use crate::options::LiveLimits;

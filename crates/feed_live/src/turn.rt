@@ -12,12 +12,12 @@ ghost use Rattle.feed_live.specs.Upstream.{Servers};
 ghost use Rattle.feed_device.specs.Files.{IsKnown};
 ghost use Rattle.feed_files.specs.Saved.{EndsAsRecorded, KeepsFiles, ArePartsOfRecords};
 
+mod due;
 mod following;
 mod serving;
 
 use crate::options::{LiveLimits, Start};
 use crate::source::Source;
-use crate::times::{SCREENS_REPORT, TICK};
 use feed_answer::Place;
 use feed_device::{Desk, Devices, Link, Ready, Report, Sockets, Store};
 use feed_files::{Good, Restored, Saved};
@@ -75,12 +75,12 @@ pub struct Live {
 
 impl Live {
     ghost use Rattle.feed_live.specs.Relaying.{IsRelaying, IsToConnect, RestsAway, SameWaiting, StillRelaying, OnlyServes};
-    ghost use Rattle.feed_live.specs.Calling.{HeedsLink};
+    ghost use Rattle.feed_live.specs.Calling.{HeedsLink, MarksMore};
     ghost use Rattle.feed_live.specs.Leaving.{BeginsOne, IsAtRest, IsToLeave, IsToMove, IsToStay, is_past, newest_time, why_left};
     ghost use Rattle.feed_live.specs.Times.{AreBy, HeedsTime, KeepsTimes, times_of};
     ghost use Rattle.feed_live.specs.declared.source.Reach.TheVariants.{Away};
     ghost use Rattle.feed_live.specs.Taking.{IsTakingInput, StillTaking, StopsTaking, bytes_in};
-    ghost use Rattle.feed_live.specs.Ending.{SameBeside, SameSaved};
+    ghost use Rattle.feed_live.specs.Ending.{SameBeside};
     ghost use Rattle.feed_screens.specs.Owed.{OwesWhatIsKept};
     ghost use Rattle.feed_live.specs.Running.{IsRelayOver, IsSameRelay};
     ghost use Rattle.feed_screens.specs.Waiting.{TakesNobody};
@@ -135,6 +135,7 @@ impl Live {
         // no time that it keeps of its servers is one to come
         ensures times { (latest : ℕ) → now ≤ latest → AreBy latest (times_of result.source) }
         ensures rests { RestsAway result.source }
+        ensures away { result.source.reach ≡ Away }
         // it may connect at once, to each server in turn, and shows what came afresh once that has
         // settled
         ensures connects { result.source.upstream.since ≡ now }
@@ -307,6 +308,11 @@ impl Live {
         ensures rests { self.old.feeds ≡ false
             → RestsAway self.old.source → RestsAway self.new.source }
 
+        // as long as a response is read, there is more of it, or the last read found nothing
+        ensures more { self.old.feeds ≡ false
+            → MarksMore self.old.source (L.calls devices.old.link).read
+            → MarksMore self.new.source (L.calls devices.new.link).read }
+
         // one that is not to be left is waited for from the same times on
         ensures holds { self.old.feeds ≡ false → self.new.ends_at ≡ None
             → self.old.source.places.items ≢ [] → self.old.source.reach ≢ Away
@@ -435,82 +441,6 @@ impl Live {
                 is_writable,
             } => self.screens.wake(at, is_readable, is_writable),
         }
-    }
-
-    /// What comes next.
-    fn next(&mut self, now: u64) -> Turn
-        ensures wakes { self.new.screens.has_more ≡ true → result.due ≤ now }
-        ensures says { IfSome self.new.screens.saying.waits (λ at. now ≤ at → result.due ≤ at) }
-        ensures awake { result.due ≤ min (self.new.reported + 60000) (2 ^ 64 - 1) }
-        ensures reported { (self.new.reported ≡ self.old.reported) ⊎ (self.new.reported ≡ now) }
-        ensures due { IsDueInTime self.new now result.due }
-        ensures serves { (sockets : AllSockets) → OnlyServes self.old self.new sockets sockets }
-        ensures saved { SameSaved self.old self.new }
-        ensures takes { result.takes_input
-            ≡ (is_none self.new.ends_at && is_none self.new.screens.saying.waits) }
-        ensures over { (result.is_over ≡ true) ↔ IsRelayOver self.new now }
-        ensures pauses { self.new.screens.accept_at ≡ self.old.screens.accept_at }
-    {
-        self.report(now);
-        Turn {
-            due: self.due(now),
-            takes_input: self.takes_input(),
-            is_over: self.is_over(now),
-        }
-    }
-
-    fn takes_input(&self) -> bool
-        ensures { result ≡ (is_none self.now.ends_at && is_none self.now.screens.saying.waits) }
-    {
-        self.ends_at.is_none() && self.screens.says_at().is_none()
-    }
-
-    fn is_over(&self, now: u64) -> bool
-        ensures { (result ≡ true) ↔ IsRelayOver self.now now }
-    {
-        match self.ends_at {
-            Some(at) => at <= now || self.screens.are_none() && self.is_saved(),
-            None => false,
-        }
-    }
-
-    /// Whether the state file has all that was published, as far as it can be written.
-    fn is_saved(&self) -> bool
-        ensures { (result ≡ true) ↔ IfSome self.now.saved (λ saved. saved.has_more ≡ false) }
-    {
-        match &self.saved {
-            Some(saved) => !saved.has_more(),
-            None => true,
-        }
-    }
-
-    /// When the next turn is due at the latest.
-    fn due(&self, now: u64) -> u64
-        ensures wakes { self.now.screens.has_more ≡ true → result ≤ now }
-        ensures says { IfSome self.now.screens.saying.waits (λ at. now ≤ at → result ≤ at) }
-        ensures awake { result ≤ min (self.now.reported + 60000) (2 ^ 64 - 1) }
-        ensures due { IsDueInTime self.now now result }
-    {
-        let mut due = self.reported.saturating_add(SCREENS_REPORT);
-        if !self.screens.are_none() {
-            due = due
-                .min(self.ticked.saturating_add(TICK))
-                .min(self.screens.idles_at());
-        }
-        due = due.min(self.screens.due(now));
-        if let Some(saved) = &self.saved {
-            due = due.min(saved.due(now));
-        }
-        if let Some(at) = self.ends_at {
-            return due.min(at);
-        }
-        if self.source.has_servers() {
-            due = due.min(self.source.due(self.limits.screens.idle));
-            if self.source.has_more() && self.screens.says_at().is_none() {
-                due = due.min(now);
-            }
-        }
-        due
     }
 }
 

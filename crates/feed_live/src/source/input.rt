@@ -26,6 +26,7 @@ impl Source {
         ensures settling { self.new.settling ≡ self.old.settling }
         ensures heard { self.new.is_heard ≡ self.old.is_heard }
         ensures times { SameTimes self.old self.new }
+        ensures reach { self.new.reach ≡ self.old.reach }
     {
         if !feeds {
             return;

@@ -1,6 +1,6 @@
-//! The response is read, followed and said.
+//! The response is read and followed.
 
-ghost use Rattle.std.specs.Prelude.{◌≡◌, ◌≢◌, ◌↔◌, ◌⊎◌, IsTrue, ◌+◌, ◌-◌, ◌<◌, ◌^◌, ◌++◌, [], List, ℕ, length, min, Result, OnOk, IfOk, IfErr, IfSome, IsSome, None, Bool, if◌then◌else◌, is_some, false, true};
+ghost use Rattle.std.specs.Prelude.{◌≡◌, ◌≢◌, ◌↔◌, ◌⊎◌, IsTrue, ◌+◌, ◌-◌, ◌<◌, ◌++◌, [], List, ℕ, length, Result, OnOk, IfOk, IfErr, IfSome, None, Bool, if◌then◌else◌, is_some, false, true};
 ghost use Rattle.feed_device.specs.Calls.{HasRead, AnsweredAtLeastOnce, AnsweredSince};
 ghost use Rattle.feed_device.specs.declared.device.Stop.{Stop as Stops};
 ghost use Rattle.feed_node.specs.Mirroring.{MirrorState};
@@ -13,7 +13,7 @@ use crate::source::{Reach, Source, has_to_wait};
 use feed_device::{Desk, Excerpt, Link, Report, Why};
 use feed_figures::Following;
 use feed_follow::{FollowFault, Progress};
-use feed_node::{FeedFault, Mirror};
+use feed_node::FeedFault;
 use feed_screens::Screens;
 use memchr::memchr;
 use std::alloc::{AllocError, Global};
@@ -29,13 +29,10 @@ const PIECE: usize = 16_384;
 const LOCATION: &[u8] = b"location:";
 
 impl Source {
-    ghost use Rattle.feed_live.specs.Calling.{AsRead, KeepsNothing, MarksMore, MayReadOn, TakesWhatCame};
-    ghost use Rattle.feed_live.specs.Leaving.{HasPublishedAt};
-    ghost use Rattle.feed_node.specs.States.{published_token};
+    ghost use Rattle.feed_live.specs.Calling.{AsRead, ReadAtOnce, KeepsNothing, LeavesOnlyFor, MarksMore, MayReadOn, TakesWhatCame};
     ghost use Rattle.feed_live.specs.Times.{HeedsTime, SameTimes};
     ghost use Rattle.feed_live.specs.Relaying.{StillFollows, SameSource, within_turn};
-    ghost use Rattle.feed_live.specs.Relaying.{SameButUnread, SameWaiting, WasLeft, PushesOnly, followed_by};
-    ghost use Rattle.feed_screens.specs.Serving.{StillServes, StillStand, AllEnd, SaysAll};
+    ghost use Rattle.feed_live.specs.Relaying.{SameButUnread, WasLeft, PushesOnly, followed_by};
     ghost use Rattle.feed_live.specs.declared.source.Reach.TheVariants.{Away, Reads as Read};
 
     /// Takes what was kept, and reads what came, so many times.
@@ -51,6 +48,7 @@ impl Source {
         ensures heeds { HeedsTime self.old self.new desk.old.time desk.new.time }
         ensures looks { (L.calls link.new).looked ≡ (L.calls link.old).looked }
         ensures written { (L.calls link.new).written ≡ (L.calls link.old).written }
+        ensures begun { (L.calls link.new).begun ≡ (L.calls link.old).begun }
         // it is read at least once, where it may be
         ensures reads { MayReadOn self.old screens.old.saying.waits
             → AnsweredAtLeastOnce (L.calls link.old).read (L.calls link.new).read }
@@ -60,6 +58,9 @@ impl Source {
             ⊎ AnsweredAtLeastOnce (L.calls link.old).read (L.calls link.new).read }
         ensures more { MarksMore self.new (L.calls link.new).read }
         ensures keeps { KeepsNothing self.new screens.new.saying.waits }
+        // it is left only for what came of the response, now or before, or since a read failed
+        ensures leaves { LeavesOnlyFor (ReadAtOnce (L.calls link.old).read (L.calls link.new).read
+            ⊎ (self.old.rest.items ≢ [])) self.old self.new }
     {
         self.take_kept(desk, link, screens);
         if !self.may_read(screens) {
@@ -107,10 +108,13 @@ impl Source {
         ensures heeds { HeedsTime self.old self.new desk.old.time desk.new.time }
         ensures looks { (L.calls link.new).looked ≡ (L.calls link.old).looked }
         ensures written { (L.calls link.new).written ≡ (L.calls link.old).written }
+        ensures begun { (L.calls link.new).begun ≡ (L.calls link.old).begun }
         ensures since { AnsweredSince (L.calls link.old).read (L.calls link.new).read }
         ensures more { MarksMore self.new (L.calls link.new).read }
         ensures keeps { KeepsNothing self.old screens.old.saying.waits
             → KeepsNothing self.new screens.new.saying.waits }
+        ensures leaves { LeavesOnlyFor
+            (ReadAtOnce (L.calls link.old).read (L.calls link.new).read) self.old self.new }
     {
         for _ in 1..READS {
             if !self.may_read(screens) {
@@ -133,6 +137,7 @@ impl Source {
         ensures calls { (answer : Result ℕ Stops)
             × HasRead answer (L.calls link.old) (L.calls link.new)
             × AsRead answer result self.old self.new }
+        ensures goes_on { IsTrue result → self.new.reach ≡ Read }
         // what came is taken, until something waits to be said
         ensures keeps { self.old.rest.items ≡ []
             → KeepsNothing self.new screens.new.saying.waits }
@@ -409,109 +414,6 @@ impl Source {
         };
         desk.reports.add_if(!self.returning.has_left_quiet(), found);
     }
-
-    /// Says what was published, where it is to be shown now. Where a connection published afresh,
-    /// no screen goes on from what it has.
-    pub(crate) fn say(&mut self, desk: &mut Desk, screens: &mut Screens)
-        ensures same { SameSource self.old self.new }
-        ensures serves { StillServes self.old.answers.shown.mirror.node screens.old screens.new }
-        // what was published afresh is counted, and each body ends that had something of before
-        ensures afresh { self.old.coming ≡ None → self.old.is_fresh ≡ true
-            → IsSome self.old.answers.shown.mirror.since
-            → self.new.epoch ≡ min (self.old.epoch + 1) (2 ^ 64 - 1) }
-        ensures ended { self.new.epoch ≢ self.old.epoch → AllEnd screens.new.hub }
-        ensures stays { self.old.is_fresh ≡ false → self.new.epoch ≡ self.old.epoch }
-        ensures says { self.old.coming ≡ None
-            → SaysAll screens.new self.new.answers.shown.mirror.node desk.new.time }
-        ensures heeds { HeedsTime self.old self.new desk.old.time desk.new.time }
-        // where the feed goes on, what was published is news; where nothing was, nothing changes
-        ensures news { self.old.coming ≡ None → self.old.is_fresh ≡ false
-            → screens.old.hub.broadcast.told ≢ published_token self.old.answers.shown.mirror.node
-            → HasPublishedAt self.new desk.old.time }
-        ensures none { self.old.coming ≡ None → self.old.is_fresh ≡ false
-            → screens.old.hub.broadcast.told ≡ published_token self.old.answers.shown.mirror.node
-            → SameWaiting self.old self.new × (self.new.is_heard ≡ self.old.is_heard) }
-    {
-        self.report_twice(desk);
-        if self.coming.is_some() {
-            self.compare(desk);
-            return;
-        }
-        self.end_former(desk, screens);
-        if screens.relay(desk, self.answers.shown.node()) {
-            self.is_heard = true;
-            self.figures.publish(desk.time);
-            self.upstream.published();
-            self.rechecking.trust();
-            self.returning.publish(desk.time);
-        }
-    }
-
-    /// Where a connection published afresh, the bodies of all end that had something of before.
-    fn end_former(&mut self, desk: &Desk, screens: &mut Screens)
-        ensures same { SameSource self.old self.new }
-        ensures serves { StillStand screens.old screens.new }
-        ensures afresh { self.old.is_fresh ≡ true → IsSome self.old.answers.shown.mirror.since
-            → self.new.epoch ≡ min (self.old.epoch + 1) (2 ^ 64 - 1) }
-        ensures ended { self.new.epoch ≢ self.old.epoch → AllEnd screens.new.hub }
-        // else nothing ends
-        ensures stays { self.old.is_fresh ≡ false
-            → (self.new ≡ self.old) × (screens.new ≡ screens.old) }
-        ensures times { SameTimes self.old self.new }
-    {
-        if self.is_fresh && self.answers.shown.mirror().since().is_some() {
-            self.is_fresh = false;
-            self.epoch = self.epoch.saturating_add(1);
-            screens.end_feeds(desk);
-        }
-    }
-
-    /// Reports the first time on a connection that it gives one token to two states.
-    pub(crate) fn report_twice(&mut self, desk: &mut Desk)
-        ensures same { SameSource self.old self.new }
-        ensures epoch { self.new.epoch ≡ self.old.epoch }
-        ensures fresh { self.new.is_fresh ≡ self.old.is_fresh }
-        ensures waits { SameWaiting self.old self.new }
-        ensures heard { self.new.is_heard ≡ self.old.is_heard }
-        ensures heeds { HeedsTime self.old self.new desk.old.time desk.new.time }
-    {
-        if self.has_reported_twice {
-            return;
-        }
-        let twice = match &self.coming {
-            Some(coming) => given_twice(coming),
-            None => given_twice(self.answers.shown.mirror()),
-        };
-        let Some(token) = twice else {
-            return;
-        };
-        let server = if self.places.is_empty() {
-            None
-        } else {
-            Some(self.upstream.place())
-        };
-        desk.reports.add(Report::GivenTwice { server, token });
-        self.has_reported_twice = true;
-    }
-
-    /// Says what had to wait.
-    pub(crate) fn say_more(&mut self, desk: &Desk, screens: &mut Screens)
-        ensures same { SameSource self.old self.new }
-        ensures waits { SameWaiting self.old self.new }
-        ensures heard { self.new.is_heard ≡ self.old.is_heard }
-        ensures epoch { self.new.epoch ≡ self.old.epoch }
-        ensures serves { StillServes self.old.answers.shown.mirror.node screens.old screens.new }
-        ensures more { self.new.has_more ≡ self.old.has_more }
-        ensures says { SaysAll screens.new self.new.answers.shown.mirror.node desk.now.time }
-    {
-        screens.relay(desk, self.answers.shown.node());
-    }
-}
-
-/// The token that a connection gave to two states, as it is reported.
-pub(crate) fn given_twice(mirror: &Mirror) -> Option<Excerpt> {
-    let token = mirror.given_twice()?;
-    Some(Excerpt::of(token.text()))
 }
 
 /// Whether memory ran out, and nothing is wrong with what came.

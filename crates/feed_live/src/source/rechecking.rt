@@ -11,7 +11,8 @@ ghost use Rattle.feed_live.specs.Upstream.{asked_with};
 ghost use Rattle.feed_live.specs.Leaving.{brought};
 
 use crate::source::Source;
-use crate::source::reading::{given_twice, is_want_of_memory, line_or_part};
+use crate::source::reading::{is_want_of_memory, line_or_part};
+use crate::source::saying::given_twice;
 use crate::times::QUIET;
 use feed_device::{Desk, Excerpt, Link, Report};
 use feed_follow::Follower;

@@ -255,6 +255,7 @@ impl Source {
         ensures epoch { self.new.epoch ≡ self.old.epoch }
         ensures heeds { HeedsTime self.old self.new desk.old.time desk.new.time }
         ensures compares { IfSome self.old.coming (Compares self.old self.new) }
+        ensures more { self.new.has_more ≡ self.old.has_more }
     {
         let Some(coming) = &self.coming else {
             return;
@@ -331,6 +332,7 @@ impl Source {
     fn report_coming(&mut self, desk: &mut Desk)
         ensures same { SameSource self.old self.new }
         ensures heeds { HeedsTime self.old self.new desk.old.time desk.new.time }
+        ensures more { self.new.has_more ≡ self.old.has_more }
     {
         let Some(at) = self.reports_at() else {
             return;
@@ -378,6 +380,7 @@ impl Source {
     fn note_at_shown(&mut self, now: u64)
         ensures same { SameSource self.old self.new }
         ensures times { SameTimes self.old self.new }
+        ensures more { self.new.has_more ≡ self.old.has_more }
     {
         if self.is_at_shown() {
             self.figures.change(Following::Answered, now);

@@ -13,7 +13,8 @@ use feed_device::{Link, Report, Store};
 
 impl Live {
     ghost use Rattle.feed_live.specs.Relaying.{StillRelaying, OnlyServes, RestsAway, SameEnd, SameWaiting, IsToConnect};
-    ghost use Rattle.feed_live.specs.Calling.{HeedsLink};
+    ghost use Rattle.feed_live.specs.Afresh.{has_come};
+    ghost use Rattle.feed_live.specs.Calling.{HeedsLink, LeavesOnlyFor, MarksMore, HasCause, ReadsAsBefore};
     ghost use Rattle.feed_live.specs.Times.{HeedsTime, KeepsTimes};
     ghost use Rattle.feed_live.specs.Leaving.{BeginsOne, IsAtRest, IsToLeave, IsToMove, IsToStay};
     ghost use Rattle.feed_live.specs.declared.source.Reach.TheVariants.{Away};
@@ -165,6 +166,9 @@ impl Live {
             → IsToStay self.old.source self.old.limits.screens.idle self.old.desk.time
             → self.old.screens.saying.waits ≡ None
             → HeedsLink self.old.source None (L.calls link.old) (L.calls link.new) }
+        // as long as a response is read, there is more of it, or the last read found nothing
+        ensures more { MarksMore self.old.source (L.calls link.old).read
+            → MarksMore self.new.source (L.calls link.new).read }
     {
         if self.ends_at.is_some() || !self.source.has_servers() {
             return;
@@ -191,6 +195,13 @@ impl Live {
             self.new.desk.time }
         ensures heeds { self.old.source.has_more ≡ true → self.old.screens.saying.waits ≡ None
             → HeedsLink self.old.source None (L.calls link.old) (L.calls link.new) }
+        // a server is left only where it can't be asked, or for what came of its response
+        ensures begun { (L.calls link.new).begun ≡ (L.calls link.old).begun }
+        ensures leaves { LeavesOnlyFor
+            (HasCause self.old.source (L.calls link.old) (L.calls link.new))
+            self.old.source self.new.source }
+        ensures more { MarksMore self.old.source (L.calls link.old).read
+            → MarksMore self.new.source (L.calls link.new).read }
     {
         if self.source.has_more() && self.screens.says_at().is_none() {
             self.source.go_on(&mut self.desk, link, &mut self.screens);
@@ -207,6 +218,10 @@ impl Live {
         ensures times { HeedsTime self.old.source self.new.source self.old.desk.time
             self.new.desk.time }
         ensures calls { L.calls link.new ≡ L.calls link.old }
+        // a server is left only for what came afresh, and has published
+        ensures leaves { LeavesOnlyFor (has_come self.old.source.coming ≡ true)
+            self.old.source self.new.source }
+        ensures more { ReadsAsBefore self.old.source self.new.source }
     {
         self.source
             .settle_due(&mut self.desk, link, &mut self.screens);

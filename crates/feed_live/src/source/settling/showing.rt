@@ -33,6 +33,7 @@ fn alone(alloc: Global, mirror: &Mirror) -> Result<Mirror, AllocError>
 }
 
 impl Source {
+    ghost use Rattle.feed_live.specs.Calling.{LeavesOnlyFor, ReadsAsBefore};
     ghost use Rattle.feed_live.specs.Times.{HeedsTime, SameTimes};
     ghost use Rattle.feed_live.specs.Relaying.{StillFollows, StillShows, SameSource, WasLeft, IsNowShown, ShowsAlone, counted_within_turn, within_turn};
     ghost use Rattle.feed_live.specs.declared.source.Reach.TheVariants.{Reads as Read};
@@ -49,6 +50,9 @@ impl Source {
             (within_turn (L.exchanges link.new) self.new self.new.rest.items screens.new) }
         // nothing settles where no response is read
         ensures stays { self.old.reach ≢ Read → self.new ≡ self.old }
+        // a server is left only for what came afresh, and has published
+        ensures leaves { LeavesOnlyFor (has_come self.old.coming ≡ true) self.old self.new }
+        ensures more { ReadsAsBefore self.old self.new }
         ensures heeds { HeedsTime self.old self.new desk.old.time desk.new.time }
         ensures calls { L.calls link.new ≡ L.calls link.old }
     {
@@ -137,6 +141,7 @@ impl Source {
             (within_turn (L.exchanges link.old) self.old left screens.old)
             (within_turn (L.exchanges link.new) self.new left screens.new) }
         ensures rest { result ≡ None → self.new.rest.items ≡ self.old.rest.items }
+        ensures more { result ≡ None → self.new.has_more ≡ self.old.has_more }
         ensures heeds { HeedsTime self.old self.new desk.old.time desk.new.time }
         ensures calls { L.calls link.new ≡ L.calls link.old }
     {
@@ -180,6 +185,7 @@ impl Source {
     fn keep_screens(&mut self)
         ensures same { SameSource self.old self.new }
         ensures times { SameTimes self.old self.new }
+        ensures more { self.new.has_more ≡ self.old.has_more }
     {
         self.settling.was_alone = false;
         if self.goes_on() {
@@ -191,6 +197,7 @@ impl Source {
     fn report_settled(&mut self, desk: &mut Desk)
         ensures same { SameSource self.old self.new }
         ensures heeds { HeedsTime self.old self.new desk.old.time desk.new.time }
+        ensures more { self.new.has_more ≡ self.old.has_more }
     {
         self.figures.change(Following::Answered, desk.time);
         desk.reports.add(Report::Settled {
@@ -215,6 +222,7 @@ impl Source {
     fn show(&mut self)
         ensures shows { IsNowShown self.old self.new }
         ensures times { SameTimes self.old self.new }
+        ensures more { self.new.has_more ≡ self.old.has_more }
     {
         if let Some(coming) = self.coming.take() {
             *self.answers.shown.change() = coming;

@@ -1,6 +1,7 @@
 use Rattle.std.proofs.Common.{◌≡◌}
 use Rattle.feed_device.specs.Calls.{AnsweredSince}
 use Rattle.feed_screens.specs.declared.screens.Screens.{Screens}
+use Rattle.feed_live.specs.Calling.{HasBroken, LeavesOnlyFor, ReadsNothing}
 use Rattle.feed_live.specs.Relaying.{StillFollows, within_turn}
 use Rattle.feed_live.specs.Times.{HeedsTime}
 use Rattle.feed_live.proofs.TimesLemmas.{unwritten}
@@ -13,6 +14,8 @@ invariant-writes g l =
       heeds : HeedsTime l.initial.self l.self l.initial.desk.time l.desk.time;
       looks : (g.L.Link.calls l.link).looked ≡ (g.L.Link.calls l.initial.link).looked;
       since : AnsweredSince (g.L.Link.calls l.initial.link).written (g.L.Link.calls l.link).written;
+      nothing_read : ReadsNothing l.initial.self l.self (g.L.Link.calls l.initial.link) (g.L.Link.calls l.link);
+      leaves : LeavesOnlyFor (HasBroken (g.L.Link.calls l.initial.link).written (g.L.Link.calls l.link).written) l.initial.self l.self;
     }
 
 abbrev pub decreases-writes : goal.decreases-writes

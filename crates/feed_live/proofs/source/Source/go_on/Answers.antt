@@ -1,7 +1,8 @@
-use Rattle.std.proofs.Common.{◌≡◌, ◌≢◌, ◌∙◌, refl, sym, ap, subst, drop, rules}
+use Rattle.std.proofs.Common.{◌≡◌, ◌≢◌, ◌∙◌, inl, refl, sym, ap, subst, drop, rules}
 use Rattle.feed_device.specs.Calls.{HasAnswered, AnsweredAtLeastOnce}
-use Rattle.feed_live.specs.declared.source.Reach.TheVariants.{Connects, Asks, Reads}
+use Rattle.feed_live.specs.declared.source.Reach.TheVariants.{Away, Connects, Asks, Reads}
 use Rattle.feed_live.proofs.TimesLemmas.{heeds_then, heeds_same}
+use Rattle.feed_live.proofs.CallingLemmas.{leaves_after, leaves_then, looked_may, read_may, wrote_may}
 use Rattle.feed_live.proofs.source.Source.go_on.Goals as goal
 
 pub returns-then-not-is_open-clause-follows : goal.returns-then-not-is_open-clause-follows
@@ -77,3 +78,23 @@ returns-else-eq-clause-calls g c =
           let asked = c.ask.ensures.rests (λ count at. let wrong : Reads ≡ Asks count = sym may.reads ∙ sym (ap (λ s. s.reach) opened.1) ∙ at in absurd (cc)) in
           absurd (others (ap (λ s. s.reach) (asked.0 ∙ opened.1) ∙ may.reads));
     }
+
+pub returns-then-not-is_open-clause-leaves : goal.returns-then-not-is_open-clause-leaves
+returns-then-not-is_open-clause-leaves g c = leaves_then c.args.self.now c.args.self.now c.is_open.new.self (λ gone. gone)
+    (looked_may c.args.self.now (g.L.Link.calls c.args.link.now) (g.L.Link.calls c.is_open.new.link) (g.L.Link.calls c.is_open.new.link) refl) (λ away. inl away) c.is_open.ensures.leaves
+
+pub returns-then-eq-clause-leaves : goal.returns-then-eq-clause-leaves
+returns-then-eq-clause-leaves g c =
+    let reads : c.ask.new.self.reach ≡ Reads = search rules in
+    let there : c.ask.new.self.reach ≢ Away = λ away. let wrong : Reads ≡ Away = sym reads ∙ away in absurd (cc) in
+    let stood : c.is_open.new.self.reach ≢ Away = λ away. there (c.ask.ensures.heeds.away away) in
+    leaves_after c.args.self.now c.ask.new.self c.read_some.new.self there
+    (read_may c.args.self.now c.ask.new.self (g.L.Link.calls c.args.link.now) (g.L.Link.calls c.ask.new.link) (g.L.Link.calls c.read_some.new.link) (c.ask.ensures.nothing_read.read ∙ c.is_open.ensures.nothing_read.read) (c.ask.ensures.nothing_read.kept there ∙ c.is_open.ensures.nothing_read.kept stood))
+    c.read_some.ensures.leaves
+
+pub returns-else-eq-clause-leaves : goal.returns-else-eq-clause-leaves
+returns-else-eq-clause-leaves g c =
+    leaves_then c.args.self.now c.is_open.new.self c.ask.new.self
+    (looked_may c.args.self.now (g.L.Link.calls c.args.link.now) (g.L.Link.calls c.is_open.new.link) (g.L.Link.calls c.ask.new.link) c.ask.ensures.looks)
+    (wrote_may c.args.self.now (g.L.Link.calls c.args.link.now) (g.L.Link.calls c.is_open.new.link) (g.L.Link.calls c.ask.new.link) (g.L.Link.calls c.ask.new.link) c.is_open.ensures.written refl)
+    c.is_open.ensures.leaves c.ask.ensures.leaves

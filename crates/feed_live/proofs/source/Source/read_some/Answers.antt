@@ -1,11 +1,13 @@
 use Rattle.std.specs.Prelude.{is_none}
-use Rattle.std.proofs.Common.{◌∙◌, inr, sym, ap, subst}
-use Rattle.feed_device.proofs.CallLemmas.{answered_once, answered_then}
+use Rattle.std.proofs.Common.{◌≡◌, ◌≢◌, ◌∙◌, inl, inr, rules, sym, ap, subst}
+use Rattle.feed_device.proofs.CallLemmas.{answered_once, answered_then, answers_once}
 use Rattle.feed_device.specs.Calls.{AnsweredAtLeastOnce}
-use Rattle.feed_live.specs.Calling.{MayReadOn}
+use Rattle.feed_live.specs.Calling.{ReadAtOnce, MayReadOn}
 use Rattle.feed_live.specs.Relaying.{followed_by}
 use Rattle.feed_live.proofs.RelayLemmas.{with_unread, within}
 use Rattle.feed_live.proofs.TimesLemmas.{heeds_then}
+use Rattle.feed_live.specs.declared.source.Reach.TheVariants.{Away, Reads}
+use Rattle.feed_live.proofs.CallingLemmas.{kept_leaves, leaves_after, read_leaves, then_read_on}
 use Rattle.feed_live.proofs.source.Source.read_some.Goals as goal
 
 pub returns-then-read-clause-follows : goal.returns-then-read-clause-follows
@@ -59,3 +61,21 @@ returns-then-read-clause-takes g c =
     λ reads.
     inr (inr (subst (λ k. AnsweredAtLeastOnce k.read (g.L.Link.calls c.read_more.new.link).read) c.take_kept.ensures.calls
     (answered_then _ _ _ (answered_once _ _ _ c.read.ensures.calls.1.read) c.read_more.ensures.since)))
+
+pub returns-then-not-may_read-clause-leaves : goal.returns-then-not-may_read-clause-leaves
+returns-then-not-may_read-clause-leaves g c = kept_leaves c.args.self.now c.take_kept.new.self c.take_kept.ensures.nothing
+
+pub returns-then-read-clause-leaves : goal.returns-then-read-clause-leaves
+returns-then-read-clause-leaves g c =
+    let reads : c.read.new.self.reach ≡ Reads = search rules in
+    let there : c.read.new.self.reach ≢ Away = λ away. let wrong : Reads ≡ Away = sym reads ∙ away in absurd (cc) in
+    leaves_after c.args.self.now c.read.new.self c.read_more.new.self there
+    (λ came. inl (subst (λ k. ReadAtOnce k.read (g.L.Link.calls c.read_more.new.link).read) c.take_kept.ensures.calls (then_read_on _ _ _ (answers_once _ _ _ c.read.ensures.calls.1.read) came)))
+    c.read_more.ensures.leaves
+
+pub returns-else-read-clause-leaves : goal.returns-else-read-clause-leaves
+returns-else-read-clause-leaves g c =
+    let may : MayReadOn c.take_kept.new.self c.take_kept.new.screens.saying.waits = c.may_read.ensures.0 c.if-not-may_read.false in
+    leaves_after c.args.self.now c.take_kept.new.self c.read.new.self (λ away. let wrong : Reads ≡ Away = sym may.reads ∙ away in absurd (cc))
+    (λ came. inl (subst (λ k. ReadAtOnce k.read (g.L.Link.calls c.read.new.link).read) c.take_kept.ensures.calls came))
+    (read_leaves _ _ _ _ _ _ c.read.ensures.calls.1 c.read.ensures.calls.2)

@@ -4,6 +4,7 @@ use Rattle.feed_live.specs.declared.source.Reach.TheVariants.{Reads}
 use Rattle.feed_live.specs.Relaying.{followed_by}
 use Rattle.feed_live.proofs.RelayLemmas.{with_left, with_same, with_unread, within, to_show, to_show_of}
 use Rattle.feed_live.proofs.TimesLemmas.{heeds_then, heeds_same}
+use Rattle.feed_live.proofs.CallingLemmas.{leaves_come, leaves_same}
 use Rattle.feed_live.proofs.source.Source.settle_due.Goals as goal
 
 pub returns-then-not-is_due_to_settle-clause-follows : goal.returns-then-not-is_due_to_settle-clause-follows
@@ -79,3 +80,15 @@ returns-in-Some-Again-clause-calls g c = c.ask_again.ensures.calls ∙ c.settle.
 
 pub returns-in-Some-Memory-clause-calls : goal.returns-in-Some-Memory-clause-calls
 returns-in-Some-Memory-clause-calls g c = c.lost.ensures.calls ∙ c.settle.ensures.calls
+
+pub returns-in-Some-Again-clause-leaves : goal.returns-in-Some-Again-clause-leaves
+returns-in-Some-Again-clause-leaves g c = leaves_come c.args.self.now c.ask_again.new.self _ c.is_due_to_settle.ensures c.if-not-is_due_to_settle.false
+
+pub returns-in-Some-Memory-clause-leaves : goal.returns-in-Some-Memory-clause-leaves
+returns-in-Some-Memory-clause-leaves g c = leaves_come c.args.self.now c.lost.new.self _ c.is_due_to_settle.ensures c.if-not-is_due_to_settle.false
+
+pub returns-in-None-clause-leaves : goal.returns-in-None-clause-leaves
+returns-in-None-clause-leaves g c = leaves_come c.args.self.now c.settle.new.self _ c.is_due_to_settle.ensures c.if-not-is_due_to_settle.false
+
+pub returns-then-not-is_due_to_settle-clause-leaves : goal.returns-then-not-is_due_to_settle-clause-leaves
+returns-then-not-is_due_to_settle-clause-leaves g c = leaves_same c.args.self.now c.note_at_shown.new.self (c.note_at_shown.ensures.same.reach ∙ c.report_coming.ensures.same.reach)

@@ -6,6 +6,7 @@ use Rattle.feed_live.specs.Relaying.{SameWaiting}
 use Rattle.feed_live.specs.Leaving.{IsAtRest}
 use Rattle.feed_live.proofs.TurnLemmas.{left_on}
 use Rattle.feed_live.proofs.TimesLemmas.{keeps_then, heeds_then, heeds_until, heeds_same, same_times, rests_same, heeds_link_same}
+use Rattle.feed_live.proofs.CallingLemmas.{still_marks}
 use Rattle.feed_live.proofs.turn.Live.follow.Goals as goal
 
 pub returns-then-is_heard-clause-relaying : goal.returns-then-is_heard-clause-relaying
@@ -103,3 +104,13 @@ returns-then-is_heard-clause-rests g c = λ rest. c.settle.ensures.times.rests (
 
 pub returns-else-was_held-clause-rests : goal.returns-else-was_held-clause-rests
 returns-else-was_held-clause-rests g c = λ rest. c.settle.ensures.times.rests (c.go_on.ensures.times.rests (c.tick.ensures.away rest))
+
+pub returns-then-is_heard-clause-more : goal.returns-then-is_heard-clause-more
+returns-then-is_heard-clause-more g c = λ marks.
+    still_marks c.go_on.new.self.source c.settle.new.self.source (g.L.Link.calls c.go_on.new.link) (g.L.Link.calls c.settle.new.link) c.settle.ensures.more (λ reads. c.settle.ensures.calls)
+    (c.go_on.ensures.more (still_marks c.args.self.now.source c.tick.new.self (g.L.Link.calls c.args.link.now) (g.L.Link.calls c.tick.new.link) c.tick.ensures.reads c.tick.ensures.calls marks))
+
+pub returns-else-was_held-clause-more : goal.returns-else-was_held-clause-more
+returns-else-was_held-clause-more g c = λ marks.
+    still_marks c.go_on.new.self.source c.settle.new.self.source (g.L.Link.calls c.go_on.new.link) (g.L.Link.calls c.settle.new.link) c.settle.ensures.more (λ reads. c.settle.ensures.calls)
+    (c.go_on.ensures.more (still_marks c.args.self.now.source c.tick.new.self (g.L.Link.calls c.args.link.now) (g.L.Link.calls c.tick.new.link) c.tick.ensures.reads c.tick.ensures.calls marks))

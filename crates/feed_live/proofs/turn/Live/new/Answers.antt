@@ -53,6 +53,7 @@ returns g c =
       times = λ latest by.
           subst (AreBy latest) (sym c.begin_input.ensures.times.times) (c.new-source.ensures.times latest (subst (λ t. t ≤ latest) (sym c.new-desk.ensures.time) by));
       rests = c.begin_input.ensures.times.rests (λ away. c.new-source.ensures.rests);
+      away = c.begin_input.ensures.reach ∙ c.new-source.ensures.reach;
       settles = (
         ap (λ s. s.pause) c.begin_input.ensures.settling ∙ c.new-source.ensures.settles.0,
         ap (λ s. s.is_always) c.begin_input.ensures.settling ∙ c.new-source.ensures.settles.1,

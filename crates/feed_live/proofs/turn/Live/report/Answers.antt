@@ -1,4 +1,4 @@
-use Rattle.std.proofs.Common.{refl}
+use Rattle.std.proofs.Common.{inl, refl}
 use Rattle.feed_screens.proofs.ServingLemmas.{serving_noted}
 use Rattle.feed_live.proofs.TurnLemmas.{same_none, waiting_none}
 use Rattle.feed_live.proofs.turn.Live.report.Goals as goal
@@ -14,5 +14,6 @@ returns-in-Some-clause-serves c =
       heard = refl;
       epoch = refl;
       rests = λ rest. rest;
+      more = λ there. inl refl;
       serves = λ nodes shown blank serving. serving_noted c.report.ensures.same serving;
     }

@@ -1,4 +1,4 @@
-use Rattle.std.proofs.Common.{subst, refl, sym, ◌∙◌}
+use Rattle.std.proofs.Common.{inl, subst, refl, sym, ◌∙◌}
 use Rattle.std.proofs.lemmas.Bool.{not-true}
 use Rattle.feed_screens.specs.Serving.{StillServing}
 use Rattle.feed_live.proofs.turn.Live.serve_one.Goals as goal
@@ -14,5 +14,6 @@ returns-clause-serves g c =
       heard = refl;
       epoch = refl;
       rests = λ rest. rest;
+      more = λ there. inl refl;
       serves = λ nodes shown blank. subst (λ t. StillServing nodes t c.args.self.now.screens c.serve.new.self (g.S.Sockets.socket c.args.sockets.now) (g.S.Sockets.socket c.serve.new.sockets)) c.shown_of-shown.ensures.contest (c.serve.ensures.serving nodes shown (λ held. blank (not-true _ (sym c.shown_of-shown.ensures.held ∙ held))));
     }

@@ -5,3 +5,6 @@ returns-clause-relaying g c = λ sockets limits log servers is. (is.0, c.settle_
 
 pub returns-clause-times : goal.returns-clause-times
 returns-clause-times g c = c.settle_due.ensures.heeds
+
+pub returns-clause-leaves : goal.returns-clause-leaves
+returns-clause-leaves g c = c.settle_due.ensures.leaves

@@ -5,7 +5,9 @@ use Rattle.feed_live.specs.Ending.{SameBeside, SameSaved}
 use Rattle.feed_files.specs.Input.{StopsInput}
 use Rattle.feed_live.specs.Taking.{bytes_in}
 use Rattle.feed_live.specs.Relaying.{IsToConnect, RestsAway, SameSource, SameWaiting}
+use Rattle.feed_live.specs.Calling.{MarksMore}
 use Rattle.feed_live.specs.Leaving.{IsAtRest, IsToLeave, IsToMove, IsToStay}
+use Rattle.feed_live.proofs.CallingLemmas.{kept_marks}
 use Rattle.feed_live.proofs.TimesLemmas.{keeps_turn, heeds_turn, heeds_link_same, moves_same, same_times, stays_awake, stays_same}
 use Rattle.feed_screens.proofs.ServingLemmas.{serving_noted}
 use Rattle.feed_live.proofs.TurnLemmas.{waiting_then, beside_then, serves_then, screens_only, relays_on, takes_only, takes_still, asked_then, goes_with, to_connect_same, left_same, begins_same, away_still}
@@ -85,6 +87,11 @@ returns g c =
       rests = λ no_feed rest.
           let apart = c.take_input.ensures.apart (said.feeds ∙ no_feed) in
           served.rests (c.follow.ensures.rests (subst RestsAway (sym apart.0) (said.rests rest)));
+      more = λ no_feed marks.
+          let apart = c.take_input.ensures.apart (said.feeds ∙ no_feed) in
+          let asked = (g.L.Link.calls c.args.devices.now.link).read in
+          kept_marks c.follow.new.self.source c.next.new.self.source (g.L.Link.calls c.follow.new.link).read served.source.reach served.more
+          (c.follow.ensures.more (subst (λ s. MarksMore s asked) (sym apart.0) (kept_marks c.args.self.now.source c.say_more.new.self.source asked said.source.reach said.more marks)));
       holds = λ no_feed goes_on some reach stay.
           let apart = c.take_input.ensures.apart (said.feeds ∙ no_feed) in
           let time = apart.1 ∙ ap (λ d. d.time) (c.say_more.ensures.desk ∙ c.note.ensures.desk ∙ c.begin.ensures) in
