@@ -17,3 +17,18 @@ returns-in-Some-clause-serves c =
       more = λ there. inl refl;
       serves = λ nodes shown blank serving. serving_noted c.report.ensures.same serving;
     }
+
+pub returns-in_default-clause-serves : goal.returns-in_default-clause-serves
+returns-in_default-clause-serves c =
+    λ sockets. record {
+      contest = refl;
+      ends = (refl, refl);
+      feeds = refl;
+      source = same_none c.args.self.now.source;
+      waiting = waiting_none c.args.self.now.source;
+      heard = refl;
+      epoch = refl;
+      rests = λ rest. rest;
+      more = λ there. inl refl;
+      serves = λ nodes shown blank serving. serving_noted c.report.ensures.same serving;
+    }
