@@ -1,5 +1,5 @@
 -- Lemmas on options that have a rule on another one.
-use Rattle.std.proofs.Common.{◌≡◌, refl, ap, ap₂, sym, ◌∙◌, ℕ, Bool, true, false, List, [], ◌∷◌, ◌++◌, Option, Some, None, length, arith}
+use Rattle.std.proofs.Common.{◌≡◌, refl, ap, sym, ◌∙◌, ℕ, Bool, true, false, List, [], ◌∷◌, ◌++◌, Option, Some, None, length, arith}
 use Rattle.std.proofs.lemmas.Bool.Decides.{nat_tests}
 use Rattle.std.proofs.lemmas.List.{nil_from_length}
 use Rattle.std.specs.Borrow.{Bor}
@@ -14,7 +14,6 @@ use Rattle.feed_arguments.proofs.Conjunctions.{second, third, sixth}
 use Rattle.feed_arguments.specs.Declaring.{IsDeclared, conflicts_by, default_rule, needs_by, rule_by, tie_rule, unless_by, value_rule}
 use Rattle.feed_arguments.specs.Options.{tied}
 use Rattle.feed_arguments.specs.declared.words.declaring.Declared.{Declared}
-use Rattle.feed_arguments.specs.declared.words.declaring.Tie.{Tie}
 use Rattle.feed_arguments.specs.declared.words.declaring.Tie.TheVariants as tie
 use Rattle.feed_arguments.specs.declared.words.declaring.Value.{Value}
 use Rattle.feed_arguments.specs.declared.words.declaring.Value.TheVariants as value
@@ -145,17 +144,3 @@ excludes_is d old new other t is local adds =
       conflicts = adds.1 ∙ ap (λ xs. xs ++ other ∷ []) alone.conflicts ∙ ap conflicts_by (sym t);
       local = ap (λ a. a.global) adds.0 ∙ local;
     }
-
--- an option that needs another one has a rule on it, whatever its tie was
-tied_again : (t : Tie) (r : Rule) → tied r ≡ tied (tie_rule t r)
-tied_again tie.Free r = refl
-tied_again (tie.Needs other) r = refl
-tied_again (tie.Unless other) r = refl
-tied_again (tie.Excludes other) r = refl
-
-pub needs_rule : {other : Bor (List ℕ)} (old new : Declared) → new ≡ record old { tie = tie.Needs other }
-    → rule_by new ≡ tied (rule_by old)
-needs_rule old new is = ap rule_by is ∙ tied_again old.tie _
-
-pub put : {x y : Rule} {xs ys : List Rule} → x ≡ y → xs ≡ ys → (x ∷ xs) ≡ (y ∷ ys)
-put one others = ap₂ (λ x xs. x ∷ xs) one others

@@ -12,17 +12,6 @@ use Rattle.feed_arguments.specs.declared.words.declaring.Tie.TheVariants as tie
 use Rattle.feed_arguments.specs.declared.words.declaring.Value.{Value}
 use Rattle.feed_arguments.specs.declared.words.declaring.Value.TheVariants as value
 
--- an option that may be left out, and has to do with no other one
-abbrev pub plain : Bor (List ℕ) → Value → Bor (List ℕ) → Declared
-plain name value help = record {
-  name = name;
-  value = value;
-  help = help;
-  default = None;
-  required = false;
-  tie = tie.Free;
-}
-
 -- an option of this name, with such a value
 abbrev pub value_rule : Text → Value → Rule
 value_rule name value.Nothing = flag name

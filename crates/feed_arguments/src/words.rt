@@ -1,7 +1,7 @@
 //! The words of a command line, and what they ask for.
 ghost use Rattle.std.specs.Prelude.{◌≡◌, List, map, IfOk, IfErr};
-ghost use Rattle.clap.specs.Words.{Text, kind_of};
-ghost use Rattle.feed_arguments.specs.Words.{Asks, AsksNothing, RefusesBy, RepliesBy};
+ghost use Rattle.clap.specs.Words.{Text, app_of, kind_of};
+ghost use Rattle.feed_arguments.specs.Words.{Asks, AsksNothing, RefusesBy, RepliesBy, command_line};
 
 mod asked;
 mod asked_live;
@@ -12,6 +12,7 @@ mod options;
 
 use crate::request::{NoCommand, Request};
 use asked::{refusal, request_entered};
+use clap::Command;
 use clap::error::ErrorKind;
 use line::{USUAL_CALLS, command_line};
 use std::alloc::Global;
@@ -39,6 +40,20 @@ fn reply(alloc: Global, error: &clap::Error) -> NoCommand
     }
 }
 
+/// What the words ask of the program, or what clap replies to them.
+fn asked_of<'a>(program: &mut Command<'a>, words: &'a [&'a str]) -> Result<Request<'a>, clap::Error>
+    ensures ok { app_of program.old ≡ command_line → IfOk result (λ request.
+        Asks (map (λ word. word.now) words.entry.now) request) }
+    ensures err { app_of program.old ≡ command_line → IfErr result (λ error.
+        RefusesBy (map (λ word. word.now) words.entry.now) (kind_of error)) }
+{
+    let matches = program.try_get_matches_from_mut(words)?;
+    match request_entered(&matches) {
+        Some(request) => Ok(request),
+        None => Err(program.error(ErrorKind::ValueValidation, refusal(&matches))?),
+    }
+}
+
 /// What the words ask for, or what clap replies to them.
 fn parse<'a>(alloc: Global, words: &'a [&'a str]) -> Result<Request<'a>, clap::Error>
     ensures ok { IfOk result (λ request. Asks (map (λ word. word.now) words.entry.now) request) }
@@ -46,11 +61,10 @@ fn parse<'a>(alloc: Global, words: &'a [&'a str]) -> Result<Request<'a>, clap::E
         RefusesBy (map (λ word. word.now) words.entry.now) (kind_of error)) }
 {
     let mut program = command_line(alloc)?;
-    let matches = program.try_get_matches_from_mut(words)?;
-    match request_entered(&matches) {
-        Some(request) => Ok(request),
-        None => Err(program.error(ErrorKind::ValueValidation, refusal(&matches))?),
-    }
+    let asked = asked_of(&mut program, words);
+    // By a call: where a command goes out of scope, the drops of all its fields are proved.
+    drop(program);
+    asked
 }
 
 /// A refusal with the usual calls below it.

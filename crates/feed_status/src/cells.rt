@@ -1,7 +1,9 @@
 //! What stands in the cells of the page's tables.
 
 use crate::health::Coming;
-use crate::status::{FileStatus, LastFailure, ScreensStatus, UpstreamState, UpstreamStatus};
+use crate::status::{
+    FailureCount, FileStatus, LastFailure, ScreensStatus, UpstreamState, UpstreamStatus,
+};
 use crate::warnings::Waiting;
 use std::fmt;
 
@@ -66,26 +68,39 @@ impl fmt::Display for Cell<'_> {
     fn fmt<W: fmt::Write>(&self, f: &mut fmt::Formatter<W>) -> fmt::Result {
         match *self {
             Cell::Text(text) => f.write_str(text),
-            Cell::Number(number) => write!(f, "{number}"),
-            Cell::Time(time) => write!(f, "{}", Time(time)),
-            Cell::Ago(Some(age)) => write!(f, "{} ago", Time(age)),
-            Cell::Ago(None) | Cell::LastFailure(None) => f.write_str("none since the start"),
-            Cell::State(state, time) => write!(f, "{}, for {}", word(state), Time(time)),
+            Cell::Number(number) => put(&number, f),
+            Cell::Time(time) => put(&Time(time), f),
+            Cell::Ago(age) => put_ago(age, f),
+            Cell::State(state, time) => put_state(state, time, f),
             Cell::Coming(upstream) => put_coming(upstream, f),
             Cell::Waiting(upstream) => put_waiting(upstream, f),
-            Cell::LastFailure(Some(failure)) => {
-                write!(f, "{}, {} ago", failure.text, Time(failure.age_ms))
-            }
+            Cell::LastFailure(failure) => put_last_failure(failure, f),
             Cell::Failures(upstream) => put_failures(upstream, f),
             Cell::Refusals(screens) => put_refusals(screens, f),
             Cell::StateFile(file) => put_state_file(file, f),
-            Cell::Answer(Some(status)) => write!(f, "{status}"),
-            Cell::Answer(None) => f.write_str("asks"),
-            Cell::Place(Some(token), _) => f.write_str(token),
-            Cell::Place(None, 0) => f.write_str("none"),
-            Cell::Place(None, behind) => write!(f, "{behind} bytes behind"),
+            Cell::Answer(status) => put_answer(status, f),
+            Cell::Place(token, behind) => put_place(token, behind, f),
         }
     }
+}
+
+fn put<T: fmt::Display, W: fmt::Write>(value: &T, f: &mut fmt::Formatter<W>) -> fmt::Result {
+    write!(f, "{value}")
+}
+
+fn put_ago<W: fmt::Write>(age: Option<u64>, f: &mut fmt::Formatter<W>) -> fmt::Result {
+    match age {
+        Some(age) => write!(f, "{} ago", Time(age)),
+        None => f.write_str("none since the start"),
+    }
+}
+
+fn put_state<W: fmt::Write>(
+    state: UpstreamState,
+    time: u64,
+    f: &mut fmt::Formatter<W>,
+) -> fmt::Result {
+    write!(f, "{}, for {}", word(state), Time(time))
 }
 
 fn put_coming<W: fmt::Write>(
@@ -108,31 +123,53 @@ fn put_waiting<W: fmt::Write>(
     }
 }
 
+fn put_last_failure<W: fmt::Write>(
+    failure: Option<LastFailure<'_>>,
+    f: &mut fmt::Formatter<W>,
+) -> fmt::Result {
+    match failure {
+        Some(failure) => write!(f, "{}, {} ago", failure.text, Time(failure.age_ms)),
+        None => put_ago(None, f),
+    }
+}
+
+fn total(failed_by: &[FailureCount<'_>]) -> u64 {
+    let mut total: u64 = 0;
+    for failed in failed_by {
+        total = total.saturating_add(failed.count);
+    }
+    total
+}
+
 fn put_failures<W: fmt::Write>(
     upstream: &UpstreamStatus<'_>,
     f: &mut fmt::Formatter<W>,
 ) -> fmt::Result {
-    let mut total: u64 = 0;
+    put(&total(&upstream.failed_by), f)?;
     for failed in &upstream.failed_by {
-        total = total.saturating_add(failed.count);
-    }
-    write!(f, "{total}")?;
-    for failed in &upstream.failed_by {
-        if failed.count > 0 {
-            write!(f, ", {}: {}", failed.reason, failed.count)?;
-        }
+        put_part(&failed.reason, failed.count, f)?;
     }
     Ok(())
 }
 
 fn put_refusals<W: fmt::Write>(screens: &ScreensStatus, f: &mut fmt::Formatter<W>) -> fmt::Result {
-    write!(f, "{}", screens.refused)?;
+    put(&screens.refused, f)?;
     for refused in &screens.refused_by {
-        if refused.count > 0 {
-            write!(f, ", {}: {}", refused.status, refused.count)?;
-        }
+        put_part(&refused.status, refused.count, f)?;
     }
     Ok(())
+}
+
+/// How many of them there are for one reason, where there are any.
+fn put_part<T: fmt::Display, W: fmt::Write>(
+    reason: &T,
+    count: u64,
+    f: &mut fmt::Formatter<W>,
+) -> fmt::Result {
+    match count {
+        0 => Ok(()),
+        _ => write!(f, ", {reason}: {count}"),
+    }
 }
 
 fn put_state_file<W: fmt::Write>(
@@ -146,5 +183,24 @@ fn put_state_file<W: fmt::Write>(
         Some(fault) => write!(f, "can't be written ({} times): {fault}", file.failures),
         None if file.bytes == 0 => f.write_str("nothing written yet"),
         None => write!(f, "{} bytes, written {} ago", file.bytes, Time(file.age_ms)),
+    }
+}
+
+fn put_answer<W: fmt::Write>(status: Option<u16>, f: &mut fmt::Formatter<W>) -> fmt::Result {
+    match status {
+        Some(status) => write!(f, "{status}"),
+        None => f.write_str("asks"),
+    }
+}
+
+fn put_place<W: fmt::Write>(
+    token: Option<&str>,
+    behind: u64,
+    f: &mut fmt::Formatter<W>,
+) -> fmt::Result {
+    match token {
+        Some(token) => f.write_str(token),
+        None if behind == 0 => f.write_str("none"),
+        None => write!(f, "{behind} bytes behind"),
     }
 }

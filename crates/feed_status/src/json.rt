@@ -29,6 +29,19 @@ fn put_end<S: Serializer>(before: Result<(), S::Error>, out: &mut S) -> Result<(
     out.end_map()
 }
 
+/// Writes an object with two members.
+fn put_pair<A: Serialize, B: Serialize, S: Serializer>(
+    names: [&str; 2],
+    first: &A,
+    second: &B,
+    out: &mut S,
+) -> Result<(), S::Error> {
+    let put = out.begin_map(None);
+    let put = put_member(put, names[0], first, out);
+    let put = put_member(put, names[1], second, out);
+    put_end(put, out)
+}
+
 /// What `/status.json` has: the status, with its level, its headline and the rows of the page's
 /// table.
 #[derive(Clone, Copy)]
@@ -154,10 +167,7 @@ impl Described for FailureCount<'_> {}
 
 impl Serialize for FailureCount<'_> {
     fn serialize<S: Serializer>(&self, out: &mut S) -> Result<(), S::Error> {
-        let put = out.begin_map(None);
-        let put = put_member(put, "reason", &self.reason, out);
-        let put = put_member(put, "count", &self.count, out);
-        put_end(put, out)
+        put_pair(["reason", "count"], &self.reason, &self.count, out)
     }
 }
 
@@ -165,10 +175,7 @@ impl Described for LastFailure<'_> {}
 
 impl Serialize for LastFailure<'_> {
     fn serialize<S: Serializer>(&self, out: &mut S) -> Result<(), S::Error> {
-        let put = out.begin_map(None);
-        let put = put_member(put, "text", &self.text, out);
-        let put = put_member(put, "age_ms", &self.age_ms, out);
-        put_end(put, out)
+        put_pair(["text", "age_ms"], &self.text, &self.age_ms, out)
     }
 }
 
@@ -176,10 +183,7 @@ impl Described for Refused {}
 
 impl Serialize for Refused {
     fn serialize<S: Serializer>(&self, out: &mut S) -> Result<(), S::Error> {
-        let put = out.begin_map(None);
-        let put = put_member(put, "status", &self.status, out);
-        let put = put_member(put, "count", &self.count, out);
-        put_end(put, out)
+        put_pair(["status", "count"], &self.status, &self.count, out)
     }
 }
 
@@ -199,10 +203,7 @@ impl Described for Latest {}
 
 impl Serialize for Latest {
     fn serialize<S: Serializer>(&self, out: &mut S) -> Result<(), S::Error> {
-        let put = out.begin_map(None);
-        let put = put_member(put, "second", &self.second, out);
-        let put = put_member(put, "point", &self.point, out);
-        put_end(put, out)
+        put_pair(["second", "point"], &self.second, &self.point, out)
     }
 }
 
@@ -222,10 +223,7 @@ impl Described for PlotsJson {}
 
 impl Serialize for PlotsJson {
     fn serialize<S: Serializer>(&self, out: &mut S) -> Result<(), S::Error> {
-        let put = out.begin_map(None);
-        let put = put_member(put, "second", &self.second, out);
-        let put = put_member(put, "points", &self.points, out);
-        put_end(put, out)
+        put_pair(["second", "points"], &self.second, &self.points, out)
     }
 }
 
@@ -233,10 +231,7 @@ impl Described for ScreensJson<'_> {}
 
 impl Serialize for ScreensJson<'_> {
     fn serialize<S: Serializer>(&self, out: &mut S) -> Result<(), S::Error> {
-        let put = out.begin_map(None);
-        let put = put_member(put, "open", &self.open, out);
-        let put = put_member(put, "screens", &self.screens, out);
-        put_end(put, out)
+        put_pair(["open", "screens"], &self.open, &self.screens, out)
     }
 }
 
@@ -244,10 +239,7 @@ impl Described for Row {}
 
 impl Serialize for Row {
     fn serialize<S: Serializer>(&self, out: &mut S) -> Result<(), S::Error> {
-        let put = out.begin_map(None);
-        let put = put_member(put, "label", &self.label, out);
-        let put = put_member(put, "text", &self.text, out);
-        put_end(put, out)
+        put_pair(["label", "text"], &self.label, &self.text, out)
     }
 }
 

@@ -6,6 +6,7 @@ use feed_device::{Link, Stop, Why};
 use mio::net::TcpStream;
 use mio::{Interest, Registry, Token};
 use std::alloc::{AllocError, Global};
+use std::io;
 use std::net::SocketAddr;
 
 /// The token of the connection.
@@ -52,6 +53,19 @@ fn servers_of(alloc: Global, hosts: &[ServerName]) -> Result<Vec<Server>, AllocE
     Ok(servers)
 }
 
+/// A connection to an address, which is only begun, and whose events have this token.
+fn connection(
+    rt: &HostRuntime,
+    registry: &Registry,
+    token: Token,
+    address: SocketAddr,
+) -> io::Result<TcpStream> {
+    let mut stream = TcpStream::connect(rt, address)?;
+    let interests = Interest::READABLE | Interest::WRITABLE;
+    registry.register(&mut stream, token, interests)?;
+    Ok(stream)
+}
+
 impl<'r> Servers<'r> {
     /// There is no connection yet. Events of one have this token.
     pub(crate) fn new(
@@ -91,19 +105,13 @@ impl<'r> Servers<'r> {
 
     /// Begins to connect to an address.
     fn connect_to(&mut self, address: SocketAddr) -> Result<(), Why> {
-        let Ok(mut stream) = TcpStream::connect(self.rt, address) else {
-            return Err(Why::Refuses);
-        };
-        let interests = Interest::READABLE | Interest::WRITABLE;
-        if self
-            .registry
-            .register(&mut stream, self.token, interests)
-            .is_err()
-        {
-            return Err(Why::Refuses);
+        match connection(self.rt, &self.registry, self.token, address) {
+            Ok(stream) => {
+                self.stream = Some(stream);
+                Ok(())
+            }
+            Err(_) => Err(Why::Refuses),
         }
-        self.stream = Some(stream);
-        Ok(())
     }
 }
 

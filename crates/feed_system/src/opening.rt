@@ -166,14 +166,19 @@ fn make_buffers(alloc: Global) -> Result<Buffers, AllocError> {
 
 /// All ends of connections, by their events.
 #[derive(Drop)]
-struct Ends {
+struct Ends<'r> {
     poll: Poll,
     watchers: Watchers,
     port: Port,
+    link: Servers<'r>,
 }
 
-/// Listens at the ports that are asked for.
-fn open_ends(rt: &HostRuntime, options: &LiveOptions<'_>) -> Result<Ends, StartFault>
+/// Listens at the ports that are asked for. None of these hosts' servers is connected to yet.
+fn open_ends<'r>(
+    rt: &'r HostRuntime,
+    options: &LiveOptions<'_>,
+    hosts: Vec<ServerName>,
+) -> Result<Ends<'r>, StartFault>
     ensures screens { IfOk result (λ ends.
         AreListed (option_map (λ list. list.now) options.now.allow) ends.port.guard.networks) }
     ensures watchers { IfOk result (λ ends.
@@ -183,11 +188,31 @@ fn open_ends(rt: &HostRuntime, options: &LiveOptions<'_>) -> Result<Ends, StartF
     let poll = Poll::new(rt)?;
     let watchers = watchers(rt, &poll, options)?;
     let port = port(rt, &poll, options)?;
+    let link = connection(rt, &poll, hosts)?;
     Ok(Ends {
         poll,
         watchers,
         port,
+        link,
     })
+}
+
+/// The connection to a server of these hosts, of which there is none yet.
+fn connection<'r>(
+    rt: &'r HostRuntime,
+    poll: &Poll,
+    hosts: Vec<ServerName>,
+) -> Result<Servers<'r>, StartFault> {
+    let registry = poll.registry().try_clone()?;
+    Ok(Servers::new(rt, registry, LINK, hosts)?)
+}
+
+/// The files that the state is kept in, where it is kept.
+fn store_of(rt: &HostRuntime, kept: Option<Kept<File>>) -> StateStore<&HostRuntime> {
+    match kept {
+        Some(kept) => StateStore::new(rt, kept),
+        None => StateStore::none(rt),
+    }
 }
 
 /// All that a relay runs on.
@@ -216,25 +241,19 @@ pub fn open<'r>(
         AreListed (option_map (λ list. list.now) options.now.allow)
         opened.system.watchers.guard.networks) }
 {
-    let store = match kept {
-        Some(kept) => StateStore::new(rt, kept),
-        None => StateStore::none(rt),
-    };
     let buffers = make_buffers(rt.alloc())?;
-    let ends = open_ends(rt, options)?;
-    let registry = ends.poll.registry().try_clone()?;
-    let link = Servers::new(rt, registry, LINK, hosts)?;
     let Ends {
         poll,
         watchers,
         port,
-    } = ends;
+        link,
+    } = open_ends(rt, options, hosts)?;
     Ok(Resources {
         system: joined(rt, poll, watchers, buffers, start),
         devices: Devices {
             sockets: port,
             link,
-            store,
+            store: store_of(rt, kept),
         },
     })
 }

@@ -29,20 +29,30 @@ pub struct Pair<'r> {
     start: Instant,
 }
 
+/// A server alone, of whose connection events have this token.
+fn server<'r>(
+    rt: &'r HostRuntime,
+    poll: &Poll,
+    token: Token,
+    name: ServerName,
+) -> io::Result<Servers<'r>> {
+    let registry = poll.registry().try_clone()?;
+    let mut names = Vec::new(rt.alloc());
+    names.push(name)?;
+    Ok(Servers::new(rt, registry, token, names)?)
+}
+
 impl<'r> Pair<'r> {
     /// No connection is open yet. Its time begins now.
     pub fn new(rt: &'r HostRuntime, first: ServerName, second: ServerName) -> io::Result<Pair<'r>> {
         let poll = Poll::new(rt)?;
-        let mut firsts = Vec::new(rt.alloc());
-        firsts.push(first)?;
-        let mut seconds = Vec::new(rt.alloc());
-        seconds.push(second)?;
-        let (registry, another) = (poll.registry().try_clone()?, poll.registry().try_clone()?);
+        let first = server(rt, &poll, LINK, first)?;
+        let second = server(rt, &poll, SECOND, second)?;
         Ok(Pair {
             rt,
             events: Events::with_capacity(rt.alloc(), EVENTS)?,
-            first: Servers::new(rt, registry, LINK, firsts)?,
-            second: Servers::new(rt, another, SECOND, seconds)?,
+            first,
+            second,
             poll,
             start: Instant::now(rt)?,
         })

@@ -49,51 +49,37 @@ pub(crate) fn is_reported(report: &Report, verbosity: Verbosity) -> bool {
     }
 }
 
+/// The server that a report is of, where it is of one.
+fn server_of(report: &Report) -> Option<usize> {
+    match *report {
+        Report::Found { server, .. }
+        | Report::Lost { server, .. }
+        | Report::Quiet { server, .. }
+        | Report::Moved { server, .. }
+        | Report::Faulty { server, .. }
+        | Report::Refused { server }
+        | Report::Ignores { server }
+        | Report::Differs { server, .. }
+        | Report::Forgot { server, .. }
+        | Report::Settled { server, .. }
+        | Report::Coming { server, .. }
+        | Report::NoToken { server, .. }
+        | Report::Unsettled { server, .. } => Some(server),
+        _ => None,
+    }
+}
+
 /// The text of a report, without the time.
 pub(crate) fn text_of(
     alloc: Global,
     report: &Report,
     servers: &Servers<'_>,
 ) -> Result<String, AllocError> {
+    if let Some(server) = server_of(report) {
+        let name = servers.name(alloc, server)?;
+        return text_of_server(alloc, report, name.as_str());
+    }
     match *report {
-        Report::Found { server, away } => {
-            let name = servers.name(alloc, server)?;
-            format!(in alloc; "upstream {name}: answers, after {away} ms")
-        }
-        Report::Lost { server, why, pause } => {
-            let name = servers.name(alloc, server)?;
-            format!(in alloc; "upstream {name}: {why}; next in {pause} ms")
-        }
-        Report::Quiet { server, time } => {
-            let name = servers.name(alloc, server)?;
-            let seconds = time / 1_000;
-            format!(in alloc; "upstream {name}: nothing new for {seconds} s; another one is asked")
-        }
-        Report::Moved { server, location } => {
-            let name = servers.name(alloc, server)?;
-            let location = location.text();
-            format!(in alloc; "upstream {name}: the feed is at {location}: name that server")
-        }
-        Report::Faulty { server, line } => {
-            let name = servers.name(alloc, server)?;
-            let line = line.text();
-            format!(in alloc; "upstream {name}: can't follow from this line on: {line}")
-        }
-        Report::Refused { server } => {
-            let name = servers.name(alloc, server)?;
-            format!(in alloc; "upstream {name}: doesn't hold our token")
-        }
-        Report::Ignores { server } => {
-            let name = servers.name(alloc, server)?;
-            format!(in alloc; "upstream {name}: ignores since_token; from here on as with --fresh")
-        }
-        Report::Differs { server, kind, id } => {
-            let name = servers.name(alloc, server)?;
-            let (kind, id) = (kind.text(), id.text());
-            format!(in alloc;
-                "upstream {name}: has another state at our token, first at {kind} {id}"
-            )
-        }
         Report::GivenTwice { server, token } => {
             let name = feed_of(alloc, servers, server)?;
             let token = token.text();
@@ -101,36 +87,71 @@ pub(crate) fn text_of(
                 "{name}: gave the token {token} to two states; what came with it again is left out"
             )
         }
-        Report::Forgot { server, token } => {
-            let name = servers.name(alloc, server)?;
+        _ => text_of_rest(alloc, report),
+    }
+}
+
+/// The text of a report of the server of this name.
+fn text_of_server(alloc: Global, report: &Report, name: &str) -> Result<String, AllocError> {
+    match *report {
+        Report::Found { away, .. } => {
+            format!(in alloc; "upstream {name}: answers, after {away} ms")
+        }
+        Report::Lost { why, pause, .. } => {
+            format!(in alloc; "upstream {name}: {why}; next in {pause} ms")
+        }
+        Report::Quiet { time, .. } => {
+            let seconds = time / 1_000;
+            format!(in alloc; "upstream {name}: nothing new for {seconds} s; another one is asked")
+        }
+        Report::Moved { location, .. } => {
+            let location = location.text();
+            format!(in alloc; "upstream {name}: the feed is at {location}: name that server")
+        }
+        Report::Faulty { line, .. } => {
+            let line = line.text();
+            format!(in alloc; "upstream {name}: can't follow from this line on: {line}")
+        }
+        Report::Settled { time, .. } => {
+            format!(in alloc; "upstream {name}: all of it came, in {time} ms")
+        }
+        _ => text_of_token(alloc, report, name),
+    }
+}
+
+/// The text of a report of our token and a server.
+fn text_of_token(alloc: Global, report: &Report, name: &str) -> Result<String, AllocError> {
+    match *report {
+        Report::Refused { .. } => format!(in alloc; "upstream {name}: doesn't hold our token"),
+        Report::Ignores { .. } => {
+            format!(in alloc; "upstream {name}: ignores since_token; from here on as with --fresh")
+        }
+        Report::Differs { kind, id, .. } => {
+            let (kind, id) = (kind.text(), id.text());
+            format!(in alloc;
+                "upstream {name}: has another state at our token, first at {kind} {id}"
+            )
+        }
+        Report::Forgot { token, .. } => {
             let token = token.text();
             format!(in alloc;
                 "upstream {name}: has another commit at the token {token}, or none; \
                  if no other server has ours, everything is asked for"
             )
         }
-        Report::Settled { server, time } => {
-            let name = servers.name(alloc, server)?;
-            format!(in alloc; "upstream {name}: all of it came, in {time} ms")
-        }
-        _ => text_of_coming(alloc, report, servers),
+        _ => text_of_coming(alloc, report, name),
     }
 }
 
 /// The text of a report of a feed that has not settled.
-fn text_of_coming(
-    alloc: Global,
-    report: &Report,
-    servers: &Servers<'_>,
-) -> Result<String, AllocError> {
+fn text_of_coming(alloc: Global, report: &Report, name: &str) -> Result<String, AllocError> {
     match *report {
         Report::Coming {
-            server,
             bytes,
             time,
             has_token,
+            ..
         } => {
-            let name = servers.name(alloc, server)?;
             let seconds = time / 1_000;
             let state = if has_token {
                 "it has not settled yet"
@@ -139,19 +160,13 @@ fn text_of_coming(
             };
             format!(in alloc; "upstream {name}: {bytes} bytes came in {seconds} s, {state}")
         }
-        Report::NoToken {
-            server,
-            changes,
-            time,
-        } => {
-            let name = servers.name(alloc, server)?;
+        Report::NoToken { changes, time, .. } => {
             let seconds = time / 1_000;
             format!(in alloc;
                 "upstream {name}: no token so far; {changes} changes wait for one for {seconds} s"
             )
         }
-        Report::Unsettled { server, bytes } => {
-            let name = servers.name(alloc, server)?;
+        Report::Unsettled { bytes, .. } => {
             format!(in alloc;
                 "upstream {name}: {bytes} bytes came, and had not settled: none is shown (see --settle)"
             )
@@ -160,38 +175,30 @@ fn text_of_coming(
     }
 }
 
+/// The text of a report of no server.
 fn text_of_rest(alloc: Global, report: &Report) -> Result<String, AllocError> {
     match *report {
         Report::BadInput { fault, line } => {
             format!(in alloc; "input: line {line}: {fault}; nothing more of it is read")
         }
-        Report::EndOfInput => String::from_str(alloc, "end of the input"),
-        Report::Screens {
-            now,
-            came,
-            ended,
-            cut,
-        } => format!(in alloc; "screens: {now}; {came} came, {ended} ended, {cut} cut"),
-        Report::Full => String::from_str(alloc, "screens: too many, one more is answered 503"),
-        Report::NoAccept => {
-            String::from_str(
-                alloc,
-                "screens: none can be taken (too many open files?), for 1 s",
-            )
-        }
-        Report::NotHeard => String::from_str(alloc, "screens: answered 503, no upstream was heard"),
         Report::Saved { bytes } => {
             format!(in alloc; "state: begun again, with a snapshot of {bytes} bytes")
         }
         Report::NotSaved { pause } => {
             format!(in alloc; "state: can't be written; tried again in {pause} ms")
         }
-        _ => text_of_screen(alloc, report),
+        _ => text_of_screens(alloc, report),
     }
 }
 
-fn text_of_screen(alloc: Global, report: &Report) -> Result<String, AllocError> {
+fn text_of_screens(alloc: Global, report: &Report) -> Result<String, AllocError> {
     match *report {
+        Report::Screens {
+            now,
+            came,
+            ended,
+            cut,
+        } => format!(in alloc; "screens: {now}; {came} came, {ended} ended, {cut} cut"),
         Report::Screen {
             peer,
             how,
@@ -199,7 +206,18 @@ fn text_of_screen(alloc: Global, report: &Report) -> Result<String, AllocError> 
             bytes,
             time,
         } => format!(in alloc; "screen {peer}: {how}; {status}, {bytes} bytes, {time} ms"),
-        _ => Ok(String::new(alloc)),
+        _ => String::from_str(alloc, fixed_text(report)),
+    }
+}
+
+/// The text of a report that has nothing to be filled in.
+fn fixed_text(report: &Report) -> &'static str {
+    match *report {
+        Report::EndOfInput => "end of the input",
+        Report::Full => "screens: too many, one more is answered 503",
+        Report::NoAccept => "screens: none can be taken (too many open files?), for 1 s",
+        Report::NotHeard => "screens: answered 503, no upstream was heard",
+        _ => "",
     }
 }
 

@@ -83,6 +83,13 @@ fn reach(streams: &mut Vec<Option<TcpStream>>, at: usize) -> Result<(), AllocErr
     Ok(())
 }
 
+/// Ends what comes and what goes over the socket of a number, if that has one.
+fn take_leave(streams: &mut Vec<Option<TcpStream>>, at: usize) {
+    if let Some(Some(stream)) = streams.get_mut(at) {
+        let _ = stream.shutdown(Shutdown::Both);
+    }
+}
+
 impl Port {
     /// No screens yet. Without a listener none comes. An address may have so many, where that is
     /// limited.
@@ -140,9 +147,7 @@ impl Port {
             return;
         };
         tally.remove(at);
-        if let Some(Some(stream)) = self.streams.get_mut(at) {
-            let _ = stream.shutdown(Shutdown::Both);
-        }
+        take_leave(&mut self.streams, at);
     }
 
     /// Whether who connects stays.

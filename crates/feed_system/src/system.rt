@@ -82,30 +82,23 @@ impl System<'_> {
         let pause = due.saturating_sub(self.now()?);
         self.poll
             .poll(&mut self.events, Some(Duration::from_millis(pause)))?;
+        self.take_events()?;
+        Ok(())
+    }
+
+    /// Keeps what became ready for a turn while it waited last, and wakes the other devices.
+    fn take_events(&mut self) -> Result<(), AllocError> {
         self.ready.clear();
         for event in &self.events {
-            let ready = match event.token() {
-                LISTENER => Ready::Listener,
-                LINK => Ready::Link,
-                INPUT => {
-                    self.input.wake();
-                    continue;
-                }
-                ERRORS => {
-                    self.errors.wake();
-                    continue;
-                }
-                WATCHERS => {
-                    self.watchers.wake();
-                    continue;
-                }
-                Token(number) if number < FIRST_SCREEN => {
-                    self.watchers.wake_one(number.saturating_sub(FIRST_WATCHER));
-                    continue;
-                }
-                Token(number) => screen_of(number.saturating_sub(FIRST_SCREEN), event),
-            };
-            self.ready.push(ready)?;
+            match ready_of(event) {
+                Some(ready) => self.ready.push(ready)?,
+                None => wake(
+                    event.token(),
+                    &mut self.input,
+                    &mut self.errors,
+                    &mut self.watchers,
+                ),
+            }
         }
         Ok(())
     }
@@ -196,11 +189,30 @@ impl System<'_> {
     }
 }
 
+/// Which device of a turn became ready; none where the event is of another one.
+fn ready_of(event: &Event) -> Option<Ready> {
+    match event.token() {
+        LISTENER => Some(Ready::Listener),
+        LINK => Some(Ready::Link),
+        Token(number) => Some(screen_of(number.checked_sub(FIRST_SCREEN)?, event)),
+    }
+}
+
 /// The socket of a screen became ready.
 fn screen_of(at: usize, event: &Event) -> Ready {
     Ready::Screen {
         at,
         is_readable: event.is_readable(),
         is_writable: event.is_writable(),
+    }
+}
+
+/// An event came for a device that is of no turn.
+fn wake(token: Token, input: &mut InputStream, errors: &mut ErrorStream, watchers: &mut Watchers) {
+    match token {
+        INPUT => input.wake(),
+        ERRORS => errors.wake(),
+        WATCHERS => watchers.wake(),
+        Token(number) => watchers.wake_one(number.saturating_sub(FIRST_WATCHER)),
     }
 }

@@ -14,6 +14,7 @@ use mio::net::{TcpListener, TcpStream};
 use mio::{Interest, Registry, Token};
 use slab::Slab;
 use std::alloc::{AllocError, Global};
+use std::io;
 use std::net::Shutdown;
 
 /// The token of the listener.
@@ -71,6 +72,19 @@ enum Step {
 }
 
 impl Watcher {
+    /// A connection that came now, after so many others.
+    fn new(alloc: Global, stream: TcpStream, now: u64, number: u64) -> Watcher {
+        Watcher {
+            stream,
+            head: Vec::new(alloc),
+            answer: Vec::new(alloc),
+            sent: 0,
+            until: now.saturating_add(TIME),
+            is_ready: true,
+            number,
+        }
+    }
+
     /// Reads more of the request, and makes the answer once the head is whole or can't become so.
     fn read<W: Watch>(&mut self, alloc: Global, relay: &W) -> Step {
         let mut piece = [0u8; PIECE];
@@ -306,6 +320,14 @@ impl Watchers {
         }
     }
 
+    /// Registers for events a connection that is to be at the next place.
+    fn register(&self, stream: &mut TcpStream) -> io::Result<()> {
+        let at = self.watchers.vacant_key();
+        let token = Token(FIRST_WATCHER.saturating_add(at));
+        let interests = Interest::READABLE | Interest::WRITABLE;
+        self.registry.register(stream, token, interests)
+    }
+
     /// Gives a connection a place, and reads what it has sent: who sent a request doesn't give way
     /// as one that sent nothing.
     fn seat<W: Watch>(
@@ -315,22 +337,9 @@ impl Watchers {
         relay: &W,
         now: u64,
     ) -> Option<()> {
-        let at = self.watchers.vacant_key();
-        let token = Token(FIRST_WATCHER.saturating_add(at));
-        let interests = Interest::READABLE | Interest::WRITABLE;
-        let mut watcher = Watcher {
-            stream,
-            head: Vec::new(alloc),
-            answer: Vec::new(alloc),
-            sent: 0,
-            until: now.saturating_add(TIME),
-            is_ready: true,
-            number: self.came,
-        };
+        let mut watcher = Watcher::new(alloc, stream, now, self.came);
         self.came = self.came.saturating_add(1);
-        self.registry
-            .register(&mut watcher.stream, token, interests)
-            .ok()?;
+        self.register(&mut watcher.stream).ok()?;
         if watcher.go_on(alloc, relay) {
             self.watchers.insert(watcher).ok()?;
         }

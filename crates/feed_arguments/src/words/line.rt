@@ -1,14 +1,17 @@
 //! The commands, as the command line declares them.
-ghost use Rattle.std.specs.Prelude.{◌≡◌, map, true, IfOk};
-ghost use Rattle.clap.specs.Words.{App, app_of, new_app, with_subcommand};
+ghost use Rattle.std.specs.Prelude.{◌≡◌, List, map, true, IfOk};
+ghost use Rattle.clap.specs.Words.{App, Rule, app_of, new_app, with_subcommand};
 ghost use Rattle.feed_arguments.specs.Declaring.{rule_by};
-ghost use Rattle.feed_arguments.specs.Options.{limits as options_limits};
+ghost use Rattle.feed_arguments.specs.Options.{with_rules};
 ghost use Rattle.feed_arguments.specs.Words as words;
 
-use super::declaring::{Declared, add_options, flag, number, number_between, text};
+use super::declaring::{Declared, PLAIN, Value, add_options};
 use super::live::live;
-use super::options::{MOST_PORT, MOST_ROUNDS, MOST_SILENCE};
-use super::{PROGRAM, VERSION, options};
+use super::options::{
+    BASE, CHUNKED, CONTEST, COUNT, FROM, HISTORY, HOST_HEADER, MEMORY, MOST_PORT, MOST_ROUNDS,
+    MOST_SILENCE, PORT, STAGED, USER_FILE, VERBOSE,
+};
+use super::{PROGRAM, VERSION};
 use clap::Command;
 use feed_settings::MOST_COMMITS;
 use std::alloc::{AllocError, Global};
@@ -24,34 +27,62 @@ Usual calls:
   tunygarop tables < screen.state
         prints the tables of such a file, or of a feed";
 
-/// What `--verbose` does in a command that opens connections.
-const CONNECTIONS: &str = "Report each connection, too";
+/// `--verbose` of a command that opens connections.
+const CONNECTIONS: Declared = Declared {
+    help: "Report each connection, too",
+    ..VERBOSE
+};
 
-/// A command without options.
-pub(super) fn command<'a>(alloc: Global, name: &'a str, about: &'a str) -> Command<'a>
-    ensures { app_of result ≡ new_app name.entry.now }
+/// A command of this name, with these options.
+pub(super) fn command<'a>(
+    alloc: Global,
+    name: &'a str,
+    about: &'a str,
+    options: &[Declared],
+) -> Result<Command<'a>, AllocError>
+    ensures { (rules : List Rule) → map rule_by options.now ≡ rules
+        → IfOk result (λ c. app_of c ≡ with_rules (new_app name.entry.now) rules) }
 {
-    Command::new(alloc, name).about(about)
+    add_options(alloc, Ok(Command::new(alloc, name).about(about)), options)
 }
 
-/// The limits of a node.
-fn limits<'a>() -> [Declared<'a>; 3]
-    ensures { map rule_by result ≡ options_limits }
-{
-    [options::history(), options::staged(), options::memory()]
-}
+/// The options of `tables`.
+static TABLES: [Declared; 5] = [
+    HISTORY,
+    STAGED,
+    MEMORY,
+    Declared {
+        name: "at",
+        value: Value::Text("TOKEN"),
+        help: "Print the tables at the first line that publishes under this token",
+        ..PLAIN
+    },
+    Declared {
+        help: "Tell the number of the faulty line, too",
+        ..VERBOSE
+    },
+];
 
 /// `tables`.
 fn tables<'a>(alloc: Global) -> Result<Command<'a>, AllocError>
     ensures { IfOk result (λ c. app_of c ≡ words.tables) }
 {
     let about = "Prints the tables that the event feed on standard input has published";
-    let tables = add_options(alloc, Ok(command(alloc, "tables", about)), &limits());
-    let at = "Print the tables at the first line that publishes under this token";
-    let verbose = "Tell the number of the faulty line, too";
-    let asked = [text("at", "TOKEN", at), options::verbose(verbose)];
-    add_options(alloc, tables, &asked)
+    command(alloc, "tables", about, &TABLES)
 }
+
+/// The options of `check`.
+static CHECK: [Declared; 2] = [
+    Declared {
+        name: "stream",
+        help: "Read piece by piece, so that the feed may have any length",
+        ..PLAIN
+    },
+    Declared {
+        help: "Count what servers get wrong, too: tokens that come again, and more",
+        ..VERBOSE
+    },
+];
 
 /// `check`.
 fn check<'a>(alloc: Global) -> Result<Command<'a>, AllocError>
@@ -59,59 +90,65 @@ fn check<'a>(alloc: Global) -> Result<Command<'a>, AllocError>
 {
     let about =
         "Counts the lines of the event feed on standard input, or names the first that can't be read";
-    let stream = "Read piece by piece, so that the feed may have any length";
-    let verbose = "Count what servers get wrong, too: tokens that come again, and more";
-    let asked = [flag("stream", stream), options::verbose(verbose)];
-    add_options(alloc, Ok(command(alloc, "check", about)), &asked)
+    command(alloc, "check", about, &CHECK)
 }
 
-/// The options that say which records are compared.
-fn audited<'a>() -> [Declared<'a>; 2]
-    ensures { map rule_by result ≡ words.audited }
-{
-    [
-        text(
-            "primary",
-            "FILE",
-            "The file with the primary's record: its feed, as one connection carried it; \
+/// The options of `audit`.
+static AUDIT: [Declared; 11] = [
+    // Which records are compared.
+    Declared {
+        name: "primary",
+        value: Value::Text("FILE"),
+        help: "The file with the primary's record: its feed, as one connection carried it; \
              - for standard input",
-        ),
-        text(
-            "screen",
-            "FILE",
-            "The file with the screen's record; without it, and with -, that is on standard input",
-        ),
-    ]
-}
-
-/// The options that say which servers are compared.
-fn compared<'a>() -> [Declared<'a>; 4]
-    ensures { map rule_by result ≡ words.compared }
-{
-    [
-        text(
-            "of",
-            "HOST:PORT",
-            "In place of records: the server that is compared with another one",
-        ),
-        text(
-            "against",
-            "HOST:PORT",
-            "The server that it is compared with",
-        ),
-        text(
-            "contest",
-            "C",
-            "The id of the contest, as the path of its feeds has it",
-        ),
-        number(
-            "for",
-            "SECONDS",
-            MOST_ROUNDS,
-            "After how many seconds the comparison ends, 1 to 1000000; without it there is no such time",
-        ),
-    ]
-}
+        ..PLAIN
+    },
+    Declared {
+        name: "screen",
+        value: Value::Text("FILE"),
+        help: "The file with the screen's record; without it, and with -, that is on standard input",
+        ..PLAIN
+    },
+    // Which servers are compared.
+    Declared {
+        name: "of",
+        value: Value::Text("HOST:PORT"),
+        help: "In place of records: the server that is compared with another one",
+        ..PLAIN
+    },
+    Declared {
+        name: "against",
+        value: Value::Text("HOST:PORT"),
+        help: "The server that it is compared with",
+        ..PLAIN
+    },
+    Declared {
+        name: "contest",
+        value: Value::Text("C"),
+        help: "The id of the contest, as the path of its feeds has it",
+        ..PLAIN
+    },
+    Declared {
+        name: "for",
+        value: Value::Number("SECONDS", 1, MOST_ROUNDS),
+        help: "After how many seconds the comparison ends, 1 to 1000000; without it there is no such time",
+        ..PLAIN
+    },
+    // What is printed.
+    Declared {
+        name: "json",
+        help: "Print one line of JSON",
+        ..PLAIN
+    },
+    Declared {
+        help: "Print objects that differ whole, however long they are",
+        ..VERBOSE
+    },
+    // The limits.
+    HISTORY,
+    STAGED,
+    MEMORY,
+];
 
 /// `audit`.
 fn audit<'a>(alloc: Global) -> Result<Command<'a>, AllocError>
@@ -120,107 +157,92 @@ fn audit<'a>(alloc: Global) -> Result<Command<'a>, AllocError>
     let about =
         "Tells whether each state of a screen's record is one of the primary's, or compares two \
         servers";
-    let audit = add_options(alloc, Ok(command(alloc, "audit", about)), &audited());
-    let audit = add_options(alloc, audit, &compared());
-    let verbose = "Print objects that differ whole, however long they are";
-    let printed = [
-        flag("json", "Print one line of JSON"),
-        options::verbose(verbose),
-    ];
-    let audit = add_options(alloc, audit, &printed);
-    add_options(alloc, audit, &limits())
+    command(alloc, "audit", about, &AUDIT)
 }
 
-/// The options that say what `serve` serves.
-fn served<'a>() -> [Declared<'a>; 6]
-    ensures { map rule_by result ≡ words.served }
-{
-    [
-        options::port("The port of 127.0.0.1 that the feed is served at"),
-        options::contest(),
-        options::count(),
-        number(
-            "turn",
-            "K",
-            MOST_ROUNDS,
-            "How many batches are committed each time that a reader is up to date, 1 to 1000000; \
+/// The options of `serve`.
+static SERVE: [Declared; 10] = [
+    Declared {
+        help: "The port of 127.0.0.1 that the feed is served at",
+        ..PORT
+    },
+    CONTEST,
+    COUNT,
+    Declared {
+        name: "turn",
+        value: Value::Number("K", 1, MOST_ROUNDS),
+        help: "How many batches are committed each time that a reader is up to date, 1 to 1000000; \
               without it all are committed first",
-        ),
-        options::chunked(),
-        number_between(
-            "back",
-            "B",
-            0,
-            MOST_COMMITS as u64,
-            "How many commits before a reader's token its feed begins, 0 to 65536",
-        )
-        .or("0"),
-    ]
-}
+        ..PLAIN
+    },
+    CHUNKED,
+    Declared {
+        name: "back",
+        value: Value::Number("B", 0, MOST_COMMITS as u64),
+        help: "How many commits before a reader's token its feed begins, 0 to 65536",
+        default: Some("0"),
+        ..PLAIN
+    },
+    CONNECTIONS,
+    HISTORY,
+    STAGED,
+    MEMORY,
+];
 
 /// `serve`.
 fn serve<'a>(alloc: Global) -> Result<Command<'a>, AllocError>
     ensures { IfOk result (λ c. app_of c ≡ words.serve) }
 {
     let about = "Serves the event feed on standard input at a port of 127.0.0.1, as a primary";
-    let serve = add_options(alloc, Ok(command(alloc, "serve", about)), &served());
-    let serve = add_options(alloc, serve, &[options::verbose(CONNECTIONS)]);
-    add_options(alloc, serve, &limits())
+    command(alloc, "serve", about, &SERVE)
 }
 
-/// The options that say what is followed.
-fn place<'a>() -> [Declared<'a>; 4]
-    ensures { map rule_by result ≡ words.place }
-{
-    let host = "The address or name of the server that is followed";
-    [
-        text("host", "H", host).required(),
-        options::port("The port of the server that is followed"),
-        options::from(),
-        options::contest(),
-    ]
-}
-
-/// The options that say as whom, and how far.
-fn followed<'a>() -> [Declared<'a>; 5]
-    ensures { map rule_by result ≡ words.followed }
-{
-    [
-        options::base(),
-        options::host_header(),
-        options::user_file(),
-        number(
-            "turns",
-            "T",
-            MOST_ROUNDS,
-            "The most reads of one connection, 1 to 1000000",
-        )
-        .or("1000000"),
-        number(
-            "silence",
-            "SECONDS",
-            MOST_SILENCE,
-            "After how many seconds without a connection or a byte a server is left, 1 to 3600; \
+/// The options of `pull`, which `relay` has, too.
+static PULL: [Declared; 14] = [
+    // What is followed.
+    Declared {
+        name: "host",
+        value: Value::Text("H"),
+        help: "The address or name of the server that is followed",
+        required: true,
+        ..PLAIN
+    },
+    Declared {
+        help: "The port of the server that is followed",
+        ..PORT
+    },
+    FROM,
+    CONTEST,
+    // As whom, and how far.
+    BASE,
+    HOST_HEADER,
+    USER_FILE,
+    Declared {
+        name: "turns",
+        value: Value::Number("T", 1, MOST_ROUNDS),
+        help: "The most reads of one connection, 1 to 1000000",
+        default: Some("1000000"),
+        ..PLAIN
+    },
+    Declared {
+        name: "silence",
+        value: Value::Number("SECONDS", 1, MOST_SILENCE),
+        help: "After how many seconds without a connection or a byte a server is left, 1 to 3600; \
               without it there is no such time",
-        ),
-    ]
-}
-
-/// A command with the options of `pull`.
-fn with_pull<'a>(
-    alloc: Global,
-    command: Result<Command<'a>, AllocError>,
-) -> Result<Command<'a>, AllocError>
-    ensures { (app : App) → IfOk command.entry (λ c. app_of c ≡ app)
-        → IfOk result (λ c. app_of c ≡ words.with_pull app) }
-{
-    let pull = add_options(alloc, command, &place());
-    let pull = add_options(alloc, pull, &followed());
-    let resume = "Begin from the tables on standard input, as this command prints them";
-    let told = [flag("resume", resume), options::verbose(CONNECTIONS)];
-    let pull = add_options(alloc, pull, &told);
-    add_options(alloc, pull, &limits())
-}
+        ..PLAIN
+    },
+    // From where, and what is told.
+    Declared {
+        name: "resume",
+        help: "Begin from the tables on standard input, as this command prints them",
+        ..PLAIN
+    },
+    CONNECTIONS,
+    // The limits.
+    HISTORY,
+    STAGED,
+    MEMORY,
+];
 
 /// `pull`.
 fn pull<'a>(alloc: Global) -> Result<Command<'a>, AllocError>
@@ -228,8 +250,21 @@ fn pull<'a>(alloc: Global) -> Result<Command<'a>, AllocError>
 {
     let about =
         "Follows a server's event feed on one connection, and prints the tables that it has published";
-    with_pull(alloc, Ok(command(alloc, "pull", about)))
+    command(alloc, "pull", about, &PULL)
 }
+
+/// The further options of `relay`.
+static RELAY: [Declared; 3] = [
+    Declared {
+        name: "listen",
+        value: Value::Number("Q", 1, MOST_PORT),
+        help: "The port of 127.0.0.1 that the feed is served at",
+        required: true,
+        ..PLAIN
+    },
+    COUNT,
+    CHUNKED,
+];
 
 /// `relay`.
 fn relay<'a>(alloc: Global) -> Result<Command<'a>, AllocError>
@@ -238,14 +273,7 @@ fn relay<'a>(alloc: Global) -> Result<Command<'a>, AllocError>
     let about =
         "Follows a server's event feed and serves it at a port of 127.0.0.1, in turns, and prints \
         the tables at the end";
-    let relay = with_pull(alloc, Ok(command(alloc, "relay", about)));
-    let listen = "The port of 127.0.0.1 that the feed is served at";
-    let served = [
-        number("listen", "Q", MOST_PORT, listen).required(),
-        options::count(),
-        options::chunked(),
-    ];
-    add_options(alloc, relay, &served)
+    add_options(alloc, command(alloc, "relay", about, &PULL), &RELAY)
 }
 
 /// A command with one more command below it; none where there was none of the two.
@@ -257,8 +285,16 @@ fn with_command<'a>(
         → IfOk below.entry (λ c. app_of c ≡ sub) → sub.top.is_plain ≡ true
         → IfOk result (λ c. app_of c ≡ with_subcommand app sub.top) }
 {
-    let below = below?;
-    above?.subcommand(below)
+    // The one that is left is dropped by a call, for the same reason as in `parse`.
+    let Ok(below) = below else {
+        drop(above);
+        return Err(AllocError);
+    };
+    let Ok(above) = above else {
+        drop(below);
+        return Err(AllocError);
+    };
+    above.subcommand(below)
 }
 
 /// The program, without its commands.
@@ -281,7 +317,7 @@ fn local_program<'a>(alloc: Global) -> Result<Command<'a>, AllocError>
     let program = with_command(Ok(program(alloc)), tables(alloc));
     let program = with_command(program, check(alloc));
     let program = with_command(program, audit(alloc));
-    with_command(program, Ok(command(alloc, "play", play)))
+    with_command(program, command(alloc, "play", play, &[]))
 }
 
 /// The program, with those and the commands for trying.

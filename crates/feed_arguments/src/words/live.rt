@@ -1,15 +1,15 @@
 //! The command `live`, as the command line declares it.
-ghost use Rattle.std.specs.Prelude.{◌≡◌, [], map, IfOk};
-ghost use Rattle.clap.specs.Words.{App, app_of};
+ghost use Rattle.std.specs.Prelude.{◌≡◌, ◌++◌, [], Some, map, option_map, slice_get, IfOk};
+ghost use Rattle.clap.specs.Words.{app_of};
 ghost use Rattle.feed_arguments.specs.Declaring.{needs_by, rule_by};
 ghost use Rattle.feed_arguments.specs.Live as live;
 
-use super::declaring::{Declared, add_options, flag, number, number_between, text};
+use super::declaring::{Declared, PLAIN, Tie, Value, add_section};
 use super::line::command;
-use super::options;
-use super::options::MOST_PORT;
+use super::options::{
+    BASE, CHUNKED, CONTEST, FROM, HISTORY, HOST_HEADER, MEMORY, MOST_PORT, STAGED, USER_FILE,
+};
 use clap::Command;
-use feed_settings::MOST_COMMITS;
 use std::alloc::{AllocError, Global};
 
 /// How many bytes the commits that are kept have at most where `--memory` is not given.
@@ -37,220 +37,224 @@ pub(super) const MOST_RETURN: u64 = 3_600;
 /// The most seconds that a request may wait for a server to be heard.
 pub(super) const MOST_HOLD: u64 = 3_600;
 
-/// A command whose further options stand under a heading in its help.
-fn under<'a>(
-    command: Result<Command<'a>, AllocError>,
-    heading: &'a str,
-) -> Result<Command<'a>, AllocError>
-    ensures { (app : App) → IfOk command.entry (λ c. app_of c ≡ app)
-        → IfOk result (λ c. app_of c ≡ app) }
-{
-    Ok(command?.next_help_heading(heading))
-}
-
-/// The options that say what is followed, and as whom.
-fn upstream<'a>() -> [Declared<'a>; 7]
-    ensures { map rule_by result ≡ live.upstream }
-{
-    [
-        options::contest(),
-        text(
-            "host",
-            "H",
-            "The address or name of the server that is followed first; \
+/// The options that say what is followed.
+static UPSTREAM: [Declared; 12] = [
+    // What, and as whom.
+    CONTEST,
+    Declared {
+        name: "host",
+        value: Value::Text("H"),
+        help: "The address or name of the server that is followed first; \
               without it the feed is read from standard input",
-        )
-        .needs("port"),
-        number(
-            "port",
-            "P",
-            MOST_PORT,
-            "The port of the server that is followed first",
-        )
-        .needs("host"),
-        options::base().needs("host"),
-        options::from().needs("host"),
-        options::host_header().needs("host"),
-        options::user_file().needs("host"),
-    ]
-}
-
-/// The options that say how a feed is asked for, when it is shown, and until when it is followed.
-fn settling<'a>() -> [Declared<'a>; 5]
-    ensures { map rule_by result ≡ live.settling }
-{
-    [
-        number_between(
-            "settle",
-            "MS",
-            0,
-            MOST_SETTLE,
-            "In how many milliseconds no more than 1/64 of a feed that was asked for from the start \
+        tie: Tie::Needs("port"),
+        ..PLAIN
+    },
+    Declared {
+        name: "port",
+        value: Value::Number("P", 1, MOST_PORT),
+        help: "The port of the server that is followed first",
+        tie: Tie::Needs("host"),
+        ..PLAIN
+    },
+    Declared {
+        tie: Tie::Needs("host"),
+        ..BASE
+    },
+    Declared {
+        tie: Tie::Needs("host"),
+        ..FROM
+    },
+    Declared {
+        tie: Tie::Needs("host"),
+        ..HOST_HEADER
+    },
+    Declared {
+        tie: Tie::Needs("host"),
+        ..USER_FILE
+    },
+    // How it is asked for, when it is shown, and until when it is followed.
+    Declared {
+        name: "settle",
+        value: Value::Number("MS", 0, MOST_SETTLE),
+        help: "In how many milliseconds no more than 1/64 of a feed that was asked for from the start \
               came before it is shown, 0 to 60000; 0 shows each of its states as it comes",
-        )
-        .or("2000"),
-        flag(
-            "fresh",
-            "Ask for everything on each connection, never with since_token: for servers that don't have \
+        default: Some("2000"),
+        ..PLAIN
+    },
+    Declared {
+        name: "fresh",
+        help: "Ask for everything on each connection, never with since_token: for servers that don't have \
               the same tokens",
-        ),
-        flag(
-            "no-recheck",
-            "Ask for what comes after the newest commit, and not for that again to see whether the \
+        ..PLAIN
+    },
+    Declared {
+        name: "no-recheck",
+        help: "Ask for what comes after the newest commit, and not for that again to see whether the \
               server still has it",
-        ),
-        number_between(
-            "return",
-            "SECONDS",
-            0,
-            MOST_RETURN,
-            "After how many seconds without a commit the other servers are asked in turn, those before \
+        ..PLAIN
+    },
+    Declared {
+        name: "return",
+        value: Value::Number("SECONDS", 0, MOST_RETURN),
+        help: "After how many seconds without a commit the other servers are asked in turn, those before \
               it first, 0 to 3600; 0 stays at a server for as long as it answers",
-        )
-        .or("30"),
-        flag("until-eof", "End where standard input ends"),
-    ]
-}
-
-/// `--listen Q`, unless there is `--state`; it needs no other option.
-fn listen<'a>() -> Declared<'a>
-    ensures rule { rule_by result ≡ live.listen }
-    ensures alone { needs_by result.tie ≡ [] }
-{
-    let help = "The port that screens come to; without it there has to be --state";
-    number("listen", "Q", MOST_PORT, help).unless("state")
-}
+        default: Some("30"),
+        ..PLAIN
+    },
+    Declared {
+        name: "until-eof",
+        help: "End where standard input ends",
+        ..PLAIN
+    },
+];
 
 /// The options that say to whom it is served.
-fn listener<'a>() -> [Declared<'a>; 5]
-    ensures { map rule_by result ≡ live.listener }
-{
-    [
-        listen(),
-        text(
-            "address",
-            "A",
-            "The address of this machine that screens come to, as 0.0.0.0 or ::",
-        )
-        .or("127.0.0.1")
-        .needs("listen"),
-        number(
-            "screens",
-            "N",
-            MOST_SCREENS,
-            "How many screens are served at once, 1 to 10000",
-        )
-        .or("1000"),
-        text(
-            "allow",
-            "LIST",
-            "Who may connect, as addresses and networks, 10.1.0.0/16,2001:db8::/32; \
+static SCREENS: [Declared; 9] = [
+    // To whom.
+    Declared {
+        name: "listen",
+        value: Value::Number("Q", 1, MOST_PORT),
+        help: "The port that screens come to; without it there has to be --state",
+        tie: Tie::Unless("state"),
+        ..PLAIN
+    },
+    Declared {
+        name: "address",
+        value: Value::Text("A"),
+        help: "The address of this machine that screens come to, as 0.0.0.0 or ::",
+        default: Some("127.0.0.1"),
+        tie: Tie::Needs("listen"),
+        ..PLAIN
+    },
+    Declared {
+        name: "screens",
+        value: Value::Number("N", 1, MOST_SCREENS),
+        help: "How many screens are served at once, 1 to 10000",
+        default: Some("1000"),
+        ..PLAIN
+    },
+    Declared {
+        name: "allow",
+        value: Value::Text("LIST"),
+        help: "Who may connect, as addresses and networks, 10.1.0.0/16,2001:db8::/32; \
               without it everybody may",
-        ),
-        number(
-            "per-address",
-            "K",
-            MOST_SCREENS,
-            "How many screens one address may have at once, 1 to 10000; \
+        ..PLAIN
+    },
+    Declared {
+        name: "per-address",
+        value: Value::Number("K", 1, MOST_SCREENS),
+        help: "How many screens one address may have at once, 1 to 10000; \
               without it as many as --screens",
-        ),
-    ]
-}
-
-/// The options that say how it is served.
-fn pace<'a>() -> [Declared<'a>; 4]
-    ensures { map rule_by result ≡ live.pace }
-{
-    [
-        number(
-            "idle",
-            "SECONDS",
-            MOST_IDLE,
-            "After how many seconds without a commit a screen is sent a line feed, 1 to 3600; \
+        ..PLAIN
+    },
+    // How.
+    Declared {
+        name: "idle",
+        value: Value::Number("SECONDS", 1, MOST_IDLE),
+        help: "After how many seconds without a commit a screen is sent a line feed, 1 to 3600; \
               a server that is silent for twice as long is left",
-        )
-        .or("120"),
-        number(
-            "window",
-            "BYTES",
-            MOST_WINDOW,
-            "How many bytes a screen may be late before it is cut off, 1 to 1073741824",
-        )
-        .or("1048576"),
-        number(
-            "pending",
-            "BYTES",
-            MOST_PENDING,
-            "How many bytes of long texts may wait to be taken by screens before whoever needs \
+        default: Some("120"),
+        ..PLAIN
+    },
+    Declared {
+        name: "window",
+        value: Value::Number("BYTES", 1, MOST_WINDOW),
+        help: "How many bytes a screen may be late before it is cut off, 1 to 1073741824",
+        default: Some("1048576"),
+        ..PLAIN
+    },
+    Declared {
+        name: "pending",
+        value: Value::Number("BYTES", 1, MOST_PENDING),
+        help: "How many bytes of long texts may wait to be taken by screens before whoever needs \
               another one waits, 1 to 1099511627776",
-        )
-        .or("67108864"),
-        options::chunked(),
-    ]
+        default: Some("67108864"),
+        ..PLAIN
+    },
+    CHUNKED,
+];
+
+/// The same; the first of them, `--listen Q`, needs no other option.
+fn screens() -> &'static [Declared]
+    ensures rules { map rule_by result.now ≡ live.listener ++ live.pace }
+    ensures alone { option_map (λ d. needs_by d.tie) (slice_get result.now 0) ≡ Some [] }
+{
+    &SCREENS
 }
 
-/// The options that say what is kept, and when that is served.
-fn kept<'a>() -> [Declared<'a>; 4]
-    ensures { map rule_by result ≡ live.kept }
-{
-    let state = "The file that keeps what was published, for the next start";
-    let new = "Begin without what FILE has, which is moved to FILE.old";
-    [
-        text("state", "FILE", state),
-        flag("new", new).needs("state"),
-        number_between(
-            "hold",
-            "SECONDS",
-            0,
-            MOST_HOLD,
-            "How many seconds a request waits for a server to be heard, after a start with a state, \
+/// The options that say what is kept.
+static STATE: [Declared; 7] = [
+    // What, and when that is served.
+    Declared {
+        name: "state",
+        value: Value::Text("FILE"),
+        help: "The file that keeps what was published, for the next start",
+        ..PLAIN
+    },
+    Declared {
+        name: "new",
+        help: "Begin without what FILE has, which is moved to FILE.old",
+        tie: Tie::Needs("state"),
+        ..PLAIN
+    },
+    Declared {
+        name: "hold",
+        value: Value::Number("SECONDS", 0, MOST_HOLD),
+        help: "How many seconds a request waits for a server to be heard, after a start with a state, \
               before it is answered 503, 0 to 3600",
-        )
-        .or("10"),
-        flag(
-            "serve-old",
-            "Serve the state of the file at once, however old it is, and not only once a server was heard",
-        ),
-    ]
-}
-
-/// The limits of the node that is served.
-fn limits<'a>() -> [Declared<'a>; 3]
-    ensures { map rule_by result ≡ live.limits }
-{
-    let history = "How many commits are kept, 1 to 65536";
-    [
-        number("history", "N", MOST_COMMITS as u64, history).or("65536"),
-        options::staged(),
-        options::memory(),
-    ]
-}
+        default: Some("10"),
+        ..PLAIN
+    },
+    Declared {
+        name: "serve-old",
+        help: "Serve the state of the file at once, however old it is, and not only once a server was heard",
+        ..PLAIN
+    },
+    // The limits of the node that is served.
+    Declared {
+        default: Some("65536"),
+        ..HISTORY
+    },
+    STAGED,
+    MEMORY,
+];
 
 /// The options that say where it is watched, and what it reports.
-fn watching<'a>() -> [Declared<'a>; 4]
-    ensures { map rule_by result ≡ live.watching }
-{
-    let status = "A further port, with a page, JSON and metrics on the relay";
-    let address = "The address that port is at; without it that of --address";
-    [
-        number("status", "PORT", MOST_PORT, status),
-        text("status-address", "A", address).needs("status"),
-        flag("verbose", "Report each screen, too").excludes("quiet"),
-        flag("quiet", "Report nothing but why the command ends"),
-    ]
-}
+static WATCHING: [Declared; 4] = [
+    Declared {
+        name: "status",
+        value: Value::Number("PORT", 1, MOST_PORT),
+        help: "A further port, with a page, JSON and metrics on the relay",
+        ..PLAIN
+    },
+    Declared {
+        name: "status-address",
+        value: Value::Text("A"),
+        help: "The address that port is at; without it that of --address",
+        tie: Tie::Needs("status"),
+        ..PLAIN
+    },
+    Declared {
+        name: "verbose",
+        help: "Report each screen, too",
+        tie: Tie::Excludes("quiet"),
+        ..PLAIN
+    },
+    Declared {
+        name: "quiet",
+        help: "Report nothing but why the command ends",
+        ..PLAIN
+    },
+];
 
 /// `live`.
 pub(super) fn live<'a>(alloc: Global) -> Result<Command<'a>, AllocError>
     ensures { IfOk result (λ c. app_of c ≡ live.live) }
 {
     let about = "Follows an event feed for ever and serves it to many screens at once";
-    let live = under(Ok(command(alloc, "live", about)), "Upstream");
-    let live = add_options(alloc, live, &upstream());
-    let live = add_options(alloc, live, &settling());
-    let live = add_options(alloc, under(live, "Screens"), &listener());
-    let live = add_options(alloc, live, &pace());
-    let live = add_options(alloc, under(live, "State"), &kept());
-    let live = add_options(alloc, live, &limits());
-    add_options(alloc, under(live, "Watching"), &watching())
+    let live = command(alloc, "live", about, &[]);
+    let live = add_section(alloc, live, "Upstream", &UPSTREAM);
+    let live = add_section(alloc, live, "Screens", screens());
+    let live = add_section(alloc, live, "State", &STATE);
+    add_section(alloc, live, "Watching", &WATCHING)
 }

@@ -1,9 +1,5 @@
 //! The options that several commands have.
-ghost use Rattle.std.specs.Prelude.{◌≡◌};
-ghost use Rattle.feed_arguments.specs.Declaring.{rule_by};
-ghost use Rattle.feed_arguments.specs.Options as words;
-
-use super::declaring::{Declared, flag, number, text};
+use super::declaring::{Declared, PLAIN, Value};
 use feed_settings::{MOST_CHANGES, MOST_COMMITS, MOST_MEMORY};
 
 /// The greatest number of a port.
@@ -17,100 +13,102 @@ pub(crate) const MOST_ROUNDS: u64 = 1_000_000;
 pub(crate) const MOST_SILENCE: u64 = 3_600;
 
 /// `--history N`.
-pub(super) fn history<'a>() -> Declared<'a>
-    ensures { rule_by result ≡ words.history }
-{
-    let help = "How many commits are kept, 1 to 65536";
-    number("history", "N", MOST_COMMITS as u64, help).or("1000")
-}
+pub(super) const HISTORY: Declared = Declared {
+    name: "history",
+    value: Value::Number("N", 1, MOST_COMMITS as u64),
+    help: "How many commits are kept, 1 to 65536",
+    default: Some("1000"),
+    ..PLAIN
+};
 
 /// `--staged N`.
-pub(super) fn staged<'a>() -> Declared<'a>
-    ensures { rule_by result ≡ words.staged }
-{
-    let help =
-        "How many changes may wait for a token, and the greatest size of the tables, 1 to 1000000";
-    number("staged", "N", MOST_CHANGES as u64, help).or("1000000")
-}
+pub(super) const STAGED: Declared = Declared {
+    name: "staged",
+    value: Value::Number("N", 1, MOST_CHANGES as u64),
+    help: "How many changes may wait for a token, and the greatest size of the tables, 1 to 1000000",
+    default: Some("1000000"),
+    ..PLAIN
+};
 
 /// `--memory BYTES`.
-pub(super) fn memory<'a>() -> Declared<'a>
-    ensures { rule_by result ≡ words.memory }
-{
-    let help =
-        "How many bytes the objects may have that wait for a token, and those of the tables, \
-        1 to 1000000000000";
-    number("memory", "BYTES", MOST_MEMORY as u64, help)
-}
+pub(super) const MEMORY: Declared = Declared {
+    name: "memory",
+    value: Value::Number("BYTES", 1, MOST_MEMORY as u64),
+    help: "How many bytes the objects may have that wait for a token, and those of the tables, \
+        1 to 1000000000000",
+    ..PLAIN
+};
 
-/// `--verbose`.
-pub(super) fn verbose<'a>(help: &'a str) -> Declared<'a>
-    ensures { rule_by result ≡ words.verbose }
-{
-    flag("verbose", help)
-}
+/// `--verbose`; what it does differs by command.
+pub(super) const VERBOSE: Declared = Declared {
+    name: "verbose",
+    ..PLAIN
+};
 
-/// `--port P`.
-pub(super) fn port<'a>(help: &'a str) -> Declared<'a>
-    ensures { rule_by result ≡ words.port }
-{
-    number("port", "P", MOST_PORT, help).required()
-}
+/// `--port P`; what it is the port of differs by command.
+pub(super) const PORT: Declared = Declared {
+    name: "port",
+    value: Value::Number("P", 1, MOST_PORT),
+    required: true,
+    ..PLAIN
+};
 
 /// `--contest C`.
-pub(super) fn contest<'a>() -> Declared<'a>
-    ensures { rule_by result ≡ words.contest }
-{
-    let help = "The id of the contest, as the path of its feed has it";
-    text("contest", "C", help).required()
-}
+pub(super) const CONTEST: Declared = Declared {
+    name: "contest",
+    value: Value::Text("C"),
+    help: "The id of the contest, as the path of its feed has it",
+    required: true,
+    ..PLAIN
+};
 
 /// `--count N`.
-pub(super) fn count<'a>() -> Declared<'a>
-    ensures { rule_by result ≡ words.count }
-{
-    let help = "How many connections are served, 1 to 1000000";
-    number("count", "N", MOST_ROUNDS, help).required()
-}
+pub(super) const COUNT: Declared = Declared {
+    name: "count",
+    value: Value::Number("N", 1, MOST_ROUNDS),
+    help: "How many connections are served, 1 to 1000000",
+    required: true,
+    ..PLAIN
+};
 
 /// `--chunked`.
-pub(super) fn chunked<'a>() -> Declared<'a>
-    ensures { rule_by result ≡ words.chunked }
-{
-    flag("chunked", "Send chunks, to readers of HTTP/1.1")
-}
+pub(super) const CHUNKED: Declared = Declared {
+    name: "chunked",
+    help: "Send chunks, to readers of HTTP/1.1",
+    ..PLAIN
+};
 
 /// `--from LIST`.
-pub(super) fn from<'a>() -> Declared<'a>
-    ensures { rule_by result ≡ words.from }
-{
-    let help =
-        "Further servers of the same log with the same tokens, as host:port,host:port, of which \
-        each is asked where those before fail; never a shadow with event ids of its own";
-    text("from", "LIST", help)
-}
+pub(super) const FROM: Declared = Declared {
+    name: "from",
+    value: Value::Text("LIST"),
+    help: "Further servers of the same log with the same tokens, as host:port,host:port, of which \
+        each is asked where those before fail; never a shadow with event ids of its own",
+    ..PLAIN
+};
 
 /// `--base B`.
-pub(super) fn base<'a>() -> Declared<'a>
-    ensures { rule_by result ≡ words.base }
-{
-    let help = "What stands before /contests in the path of the feed, as /api";
-    text("base", "B", help).or("")
-}
+pub(super) const BASE: Declared = Declared {
+    name: "base",
+    value: Value::Text("B"),
+    help: "What stands before /contests in the path of the feed, as /api",
+    default: Some(""),
+    ..PLAIN
+};
 
 /// `--host-header NAME`.
-pub(super) fn host_header<'a>() -> Declared<'a>
-    ensures { rule_by result ≡ words.host_header }
-{
-    let help = "What requests call the server, for one that is reached through a proxy; \
-        without it that is its host";
-    text("host-header", "NAME", help)
-}
+pub(super) const HOST_HEADER: Declared = Declared {
+    name: "host-header",
+    value: Value::Text("NAME"),
+    help: "What requests call the server, for one that is reached through a proxy; \
+        without it that is its host",
+    ..PLAIN
+};
 
 /// `--user-file FILE`.
-pub(super) fn user_file<'a>() -> Declared<'a>
-    ensures { rule_by result ≡ words.user_file }
-{
-    let help = "A file with a line NAME:PASSWORD for the server, which nobody else may read";
-    text("user-file", "FILE", help)
-}
+pub(super) const USER_FILE: Declared = Declared {
+    name: "user-file",
+    value: Value::Text("FILE"),
+    help: "A file with a line NAME:PASSWORD for the server, which nobody else may read",
+    ..PLAIN
+};

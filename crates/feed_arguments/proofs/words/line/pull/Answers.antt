@@ -1,5 +1,5 @@
+use Rattle.std.proofs.Common.{refl}
 use Rattle.feed_arguments.proofs.words.line.pull.Goals as goal
 
 pub returns : goal.returns
-returns c =
-    c.with_pull.ensures _ c.command.ensures
+returns c = c.command.ensures _ refl

@@ -1,8 +1,5 @@
-use Rattle.std.proofs.Common.{rules, [], ◌∷◌}
-use Rattle.feed_arguments.specs.Options.{chunked, count, listen}
+use Rattle.std.proofs.Common.{refl}
 use Rattle.feed_arguments.proofs.words.line.relay.Goals as goal
 
 pub returns : goal.returns
-returns c =
-    c.add_options.ensures _ (listen ∷ count ∷ chunked ∷ []) (c.with_pull-relay.ensures _ c.command.ensures)
-    (search rules)
+returns c = c.add_options.ensures _ _ (c.command.ensures _ refl) refl

@@ -7,11 +7,10 @@ use Rattle.feed_arguments.proofs.words.line.with_command.Goals as goal
 pub returns : goal.returns
 returns c =
     λ app sub above below plain.
-    let above_is : app_of c.in_ok-above.field-0 ≡ app =
-    subst (λ r. IfOk r (λ k. app_of k ≡ app)) c.in_ok-above.was above in
-    let below_is : app_of c.in_ok-below.below ≡ sub =
-    subst (λ r. IfOk r (λ k. app_of k ≡ sub)) c.in_ok-below.was below in
-    let is_plain : (app_of c.in_ok-below.below).top.is_plain ≡ true = ap (λ (s : App). s.top.is_plain) below_is
+    let above_is : app_of c.in-Ok-above.above ≡ app =
+    subst (λ r. IfOk r (λ k. app_of k ≡ app)) c.in-Ok-above.is above in
+    let below_is : app_of c.in-Ok.below ≡ sub = subst (λ r. IfOk r (λ k. app_of k ≡ sub)) c.in-Ok.is below in
+    let is_plain : (app_of c.in-Ok.below).top.is_plain ≡ true = ap (λ (s : App). s.top.is_plain) below_is
     ∙ plain in
     IfOk-weaker c.subcommand.result _ _ (λ command h. h.shape (no_globals _ _ _ _ is_plain)
     ∙ ap₂ (λ (x y : App). with_subcommand x y.top) above_is below_is) c.subcommand.ensures

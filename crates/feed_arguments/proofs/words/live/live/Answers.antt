@@ -1,11 +1,9 @@
+use Rattle.std.proofs.Common.{refl}
 use Rattle.feed_arguments.proofs.words.live.live.Goals as goal
 
 pub returns : goal.returns
 returns c =
-    let followed = c.add_options-live.ensures _ _ (c.under-live.ensures _ c.command.ensures) c.upstream.ensures in
-    let settled = c.add_options-live-2.ensures _ _ followed c.settling.ensures in
-    let served = c.add_options-live-3.ensures _ _ (c.under.ensures _ settled) c.listener.ensures in
-    let paced = c.add_options-live-4.ensures _ _ served c.pace.ensures in
-    let keeping = c.add_options-live-5.ensures _ _ (c.under-2.ensures _ paced) c.kept.ensures in
-    let limited = c.add_options-live-6.ensures _ _ keeping c.limits.ensures in
-    c.add_options.ensures _ _ (c.under-3.ensures _ limited) c.watching.ensures
+    let followed = c.add_section-live.ensures _ _ (c.command-live.ensures _ refl) refl in
+    let served = c.add_section-live-2.ensures _ _ followed c.screens.ensures.rules in
+    let kept = c.add_section-live-3.ensures _ _ served refl in
+    c.add_section.ensures _ _ kept refl
