@@ -59,7 +59,7 @@ impl<'r, 's> Dialer<'r, 's> {
             rt,
             reporter,
             servers,
-            silence: options.silence.map(|seconds| Duration::from_secs(seconds)),
+            silence: options.silence.map(Duration::from_secs),
             server: 0,
             misses: 0,
         }
