@@ -9,6 +9,7 @@ use feed_commands::{AddressFault, CompareOptions, Fault, addresses};
 use feed_host::Failure;
 use feed_node::{Limits, Node};
 use feed_system::{Pair, ServerName};
+use feed_tables::Change;
 use std::alloc::{AllocError, Global};
 use std::io;
 use std::io::{ErrorKind, Write};
@@ -36,14 +37,25 @@ struct Options {
     verbose: bool,
 }
 
+/// A server that is asked, and what it shows.
+#[derive(Drop)]
+struct Asked {
+    host: ServerName,
+    tail: Tail,
+}
+
 /// There was no memory, or a call of the system failed.
+fn fault_of_system(error: &io::Error) -> Fault {
+    match error.kind() {
+        ErrorKind::OutOfMemory => Fault::Memory,
+        _ => Fault::Read,
+    }
+}
+
 fn of_system<T: Drop>(outcome: io::Result<T>) -> Result<T, Fault> {
     match outcome {
         Ok(value) => Ok(value),
-        Err(error) => match error.kind() {
-            ErrorKind::OutOfMemory => Err(Fault::Memory),
-            _ => Err(Fault::Read),
-        },
+        Err(error) => Err(fault_of_system(&error)),
     }
 }
 
@@ -79,80 +91,124 @@ fn address_of(rt: &HostRuntime, option: &str, text: &str) -> Result<(String, u16
     }
 }
 
-/// The server that an option names, and what it shows of a contest: nothing yet.
+/// What the server of this name shows of a contest: nothing yet.
+fn tail_of(rt: &HostRuntime, name: &str, contest: &str, limits: Limits) -> Result<Tail, Failure> {
+    match Place::new(rt.alloc(), name, "", contest) {
+        Ok(place) => Ok(needs_memory(Tail::new(rt.alloc(), place, limits))?),
+        Err(fault) => Err(Failure::from(Fault::from(fault))),
+    }
+}
+
+/// The host of this name, whose address may stand in brackets.
+fn host_of(rt: &HostRuntime, name: &str, port: u16) -> Result<ServerName, Fault> {
+    let bare = needs_memory(String::from_str(rt.alloc(), without_brackets(name)))?;
+    needs_memory(ServerName::new(rt, bare, port))
+}
+
+/// The server of this name, and what it shows of a contest: nothing yet.
+fn asked_of(
+    rt: &HostRuntime,
+    name: &str,
+    port: u16,
+    contest: &str,
+    limits: Limits,
+) -> Result<Asked, Failure> {
+    let tail = tail_of(rt, name, contest, limits)?;
+    match host_of(rt, name, port) {
+        Ok(host) => Ok(Asked { host, tail }),
+        Err(fault) => Err(Failure::from(fault)),
+    }
+}
+
+/// The server that an option names.
 fn server_of(
     rt: &HostRuntime,
     option: &str,
     text: &str,
     contest: &str,
     limits: Limits,
-) -> Result<(ServerName, Tail), Failure> {
-    let (name, port) = address_of(rt, option, text)?;
-    let place = Place::new(rt.alloc(), name.as_str(), "", contest);
-    let place = match place {
-        Ok(place) => place,
-        Err(fault) => return Err(Failure::from(Fault::from(fault))),
-    };
-    let tail = needs_memory(Tail::new(rt.alloc(), place, limits))?;
-    let bare = needs_memory(String::from_str(rt.alloc(), without_brackets(name.as_str())))?;
-    let host = needs_memory(ServerName::new(rt, bare, port))?;
-    Ok((host, tail))
+) -> Result<Asked, Failure> {
+    match address_of(rt, option, text) {
+        Ok((name, port)) => asked_of(rt, name.as_str(), port, contest, limits),
+        Err(failure) => Err(failure),
+    }
+}
+
+/// Tells that the server of an option was lost, once for each loss.
+fn report_loss(rt: &HostRuntime, tail: &mut Tail, option: &str) {
+    if tail.take_loss() {
+        let _ = eprintln!(rt; "audit: no feed from the server of {option}: it is asked again");
+    }
 }
 
 impl<'r> Comparison<'r> {
     fn new(rt: &'r HostRuntime, options: &CompareOptions<'_>) -> Result<Comparison<'r>, Failure> {
         let (contest, limits) = (options.contest, options.limits);
-        let (first, of) = server_of(rt, "--of", options.of, contest, limits)?;
-        let (second, against) = server_of(rt, "--against", options.against, contest, limits)?;
-        Ok(Comparison {
-            rt,
-            pair: of_system(Pair::new(rt, first, second))?,
-            of,
-            against,
-            options: Options {
-                json: options.json,
-                verbose: options.verbose,
-            },
-            has_more: true,
-            has_agreed: false,
-        })
+        let of = server_of(rt, "--of", options.of, contest, limits)?;
+        let against = server_of(rt, "--against", options.against, contest, limits)?;
+        let (json, verbose) = (options.json, options.verbose);
+        Ok(Comparison::between(rt, of, against, Options { json, verbose })?)
     }
 
-    /// Tells which server was lost, once for each loss.
-    fn report_losses(&mut self) {
-        if self.of.take_loss() {
-            let _ = eprintln!(self.rt; "audit: no feed from the server of --of: it is asked again");
+    /// Nothing was asked yet.
+    fn between(
+        rt: &'r HostRuntime,
+        of: Asked,
+        against: Asked,
+        options: Options,
+    ) -> Result<Comparison<'r>, Fault> {
+        match Pair::new(rt, of.host, against.host) {
+            Ok(pair) => Ok(Comparison {
+                rt,
+                pair,
+                of: of.tail,
+                against: against.tail,
+                options,
+                has_more: true,
+                has_agreed: false,
+            }),
+            Err(error) => Err(fault_of_system(&error)),
         }
-        if self.against.take_loss() {
-            let _ = eprintln!(self.rt;
-                "audit: no feed from the server of --against: it is asked again"
-            );
-        }
+    }
+
+    /// Takes what both sent.
+    fn take(&mut self, now: u64) -> Result<(), AllocError> {
+        let alloc = self.rt.alloc();
+        let ours = self.of.step(alloc, &mut self.pair.first, now)?;
+        let theirs = self.against.step(alloc, &mut self.pair.second, now)?;
+        self.has_more = ours || theirs;
+        Ok(())
     }
 
     /// Takes what both sent, and compares them at each token that both have.
     fn step(&mut self, now: u64) -> Result<(), Fault> {
-        let alloc = self.rt.alloc();
-        let ours = needs_memory(self.of.step(alloc, &mut self.pair.first, now))?;
-        let theirs = needs_memory(self.against.step(alloc, &mut self.pair.second, now))?;
-        self.has_more = ours || theirs;
-        self.report_losses();
+        needs_memory(self.take(now))?;
+        report_loss(self.rt, &mut self.of, "--of");
+        report_loss(self.rt, &mut self.against, "--against");
         for _ in 0..u64::MAX {
             let Some((ours, theirs)) = self.of.common(&self.against) else {
                 break;
             };
             let are_next = self.of.is_next(ours) && self.against.is_next(theirs);
-            needs_memory(self.of.advance(alloc, ours))?;
-            needs_memory(self.against.advance(alloc, theirs))?;
+            needs_memory(self.advance(ours, theirs))?;
             self.compare(are_next)?;
         }
         Ok(())
     }
 
+    /// Goes on to these states of both.
+    fn advance(&mut self, ours: usize, theirs: usize) -> Result<(), AllocError> {
+        let alloc = self.rt.alloc();
+        self.of.advance(alloc, ours)?;
+        self.against.advance(alloc, theirs)
+    }
+
     /// Compares what both show, and prints what was found. With `are_next` both made one commit
     /// since they agreed.
     fn compare(&mut self, are_next: bool) -> Result<(), Fault> {
-        let (text, is_same) = needs_memory(self.verdict(are_next))?;
+        let is_same = self.is_same(are_next);
+        let mut text = Vec::new(self.rt.alloc());
+        needs_memory(self.put_verdict(is_same, &mut text))?;
         if self.rt.stdout().write_all(text.as_slice()).is_err() {
             return Err(Fault::Write);
         }
@@ -165,24 +221,34 @@ impl<'r> Comparison<'r> {
         Ok(())
     }
 
-    /// What is printed of what both show, and whether it is the same.
-    fn verdict(&self, are_next: bool) -> Result<(Vec<u8>, bool), AllocError> {
-        let alloc = self.rt.alloc();
-        let mut text = Vec::new(alloc);
+    /// Whether both show the same.
+    fn is_same(&self, are_next: bool) -> bool {
         let (node, other) = (self.of.node(), self.against.node());
-        let is_same = (are_next && commits_agree(node, other)) || shows_same(node, other);
-        let token = match node.token() {
+        (are_next && commits_agree(node, other)) || shows_same(node, other)
+    }
+
+    /// Appends what is printed of what both show.
+    fn put_verdict(&self, is_same: bool, text: &mut Vec<u8>) -> Result<(), AllocError> {
+        let token = match self.of.node().token() {
             Some(token) => token.text(),
             None => "",
         };
         if is_same {
-            print_agreement(alloc, self.options.json, token, &mut text)?;
-        } else if let (Some(tables), Some(others)) = (node.published(), other.published()) {
-            let difference = difference_of(alloc, tables, others)?;
-            let Options { json, verbose } = self.options;
-            print_difference(alloc, json, verbose, token, &difference, &mut text)?;
+            return print_agreement(self.rt.alloc(), self.options.json, token, text);
         }
-        Ok((text, is_same))
+        self.put_difference(token, text)
+    }
+
+    /// Appends where they differ at a token, where both show something.
+    fn put_difference(&self, token: &str, text: &mut Vec<u8>) -> Result<(), AllocError> {
+        let alloc = self.rt.alloc();
+        let shown = (self.of.node().published(), self.against.node().published());
+        let (Some(tables), Some(others)) = shown else {
+            return Ok(());
+        };
+        let Options { json, verbose } = self.options;
+        let difference = difference_of(alloc, tables, others)?;
+        print_difference(alloc, json, verbose, token, &difference, text)
     }
 
     /// Goes on until a time, in milliseconds since the start, or until they differ.
@@ -219,16 +285,21 @@ impl<'r> Comparison<'r> {
 /// Whether two nodes that agreed before their last commits publish the same wherever these may have
 /// made a difference.
 fn commits_agree(node: &Node, other: &Node) -> bool {
-    let (Some(tables), Some(others)) = (node.published(), other.published()) else {
-        return false;
-    };
     let (Some(ours), Some(theirs)) = (node.newest_commit(), other.newest_commit()) else {
         return false;
     };
-    let (ours, theirs) = (ours.changes.as_slice(), theirs.changes.as_slice());
-    ours.iter()
-        .chain(theirs.iter())
-        .all(|change| tables.agree_at(others, change))
+    agree_at(node, other, ours.changes.as_slice())
+        && agree_at(node, other, theirs.changes.as_slice())
+}
+
+/// Whether two nodes publish the same wherever these changes may have made a difference.
+fn agree_at(node: &Node, other: &Node, changes: &[Change]) -> bool {
+    match (node.published(), other.published()) {
+        (Some(tables), Some(others)) => {
+            changes.iter().all(|change| tables.agree_at(others, change))
+        }
+        _ => false,
+    }
 }
 
 /// Whether two nodes publish the same tables.

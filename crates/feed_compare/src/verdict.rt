@@ -17,9 +17,8 @@ pub fn print_agreement(
     out: &mut Vec<u8>,
 ) -> Result<(), AllocError> {
     if json {
-        out.extend_from_slice(b"{\"verdict\":\"agree\",\"token\":")?;
-        encode_string(alloc, token, out)?;
-        return out.extend_from_slice(b"}\n");
+        begin_json(alloc, "agree", token, out)?;
+        return put(&["}\n"], out);
     }
     put(&["agree: token ", token, "\n"], out)
 }
@@ -35,13 +34,23 @@ pub fn print_difference(
     out: &mut Vec<u8>,
 ) -> Result<(), AllocError> {
     if json {
-        out.extend_from_slice(b"{\"verdict\":\"differ\",\"token\":")?;
-        encode_string(alloc, token, out)?;
+        begin_json(alloc, "differ", token, out)?;
         put_place_json(alloc, difference, out)?;
-        return out.extend_from_slice(b"}\n");
+        return put(&["}\n"], out);
     }
     put(&["differ: token ", token, "\n"], out)?;
     put_place(whole, difference, out)
+}
+
+/// Begins a line of JSON with a verdict and its token.
+fn begin_json(
+    alloc: Global,
+    verdict: &str,
+    token: &str,
+    out: &mut Vec<u8>,
+) -> Result<(), AllocError> {
+    put(&["{\"verdict\":\"", verdict, "\",\"token\":"], out)?;
+    encode_string(alloc, token, out)
 }
 
 fn put(texts: &[&str], out: &mut Vec<u8>) -> Result<(), AllocError> {
@@ -52,24 +61,35 @@ fn put(texts: &[&str], out: &mut Vec<u8>) -> Result<(), AllocError> {
 }
 
 fn put_place(whole: bool, difference: &Difference, out: &mut Vec<u8>) -> Result<(), AllocError> {
-    let Difference::At {
-        kind,
-        id,
-        primary,
-        screen,
-    } = difference
-    else {
-        return put(&["the tables are the same\n"], out);
-    };
-    put(&["first at ", kind.text()], out)?;
-    if let Some(id) = id {
-        put(&[" ", id.text()], out)?;
+    match difference {
+        Difference::At {
+            kind,
+            id,
+            primary,
+            screen,
+        } => {
+            put_name(kind, id.as_ref(), out)?;
+            put_of("\nof: ", primary, whole, out)?;
+            put_of("\nagainst: ", screen, whole, out)?;
+            put(&["\n"], out)
+        }
+        _ => put(&["the tables are the same\n"], out),
     }
-    put(&["\nof: "], out)?;
-    put_side(primary, whole, out)?;
-    put(&["\nagainst: "], out)?;
-    put_side(screen, whole, out)?;
-    put(&["\n"], out)
+}
+
+/// Appends a collection, and the id of an object in it, where there is one.
+fn put_name(kind: &Name, id: Option<&Name>, out: &mut Vec<u8>) -> Result<(), AllocError> {
+    put(&["first at ", kind.text()], out)?;
+    match id {
+        Some(id) => put(&[" ", id.text()], out),
+        None => Ok(()),
+    }
+}
+
+/// Appends what one of them has there, behind a text.
+fn put_of(before: &str, side: &Side, whole: bool, out: &mut Vec<u8>) -> Result<(), AllocError> {
+    put(&[before], out)?;
+    put_side(side, whole, out)
 }
 
 fn put_side(side: &Side, whole: bool, out: &mut Vec<u8>) -> Result<(), AllocError> {
@@ -83,16 +103,21 @@ fn put_side(side: &Side, whole: bool, out: &mut Vec<u8>) -> Result<(), AllocErro
 /// Appends an object: its first bytes, as far as they are whole characters, and dots where there
 /// are more.
 fn put_object(object: &[u8], whole: bool, out: &mut Vec<u8>) -> Result<(), AllocError> {
-    let front = match object.get(..PRINTED) {
-        Some(front) if !whole => front,
-        _ => return out.extend_from_slice(object),
-    };
-    let length = match str::from_utf8(front) {
-        Ok(_) => front.len(),
-        Err(error) => error.valid_up_to(),
-    };
-    out.extend_from_slice(front.get(..length).unwrap_or(front))?;
-    put(&["..."], out)
+    match object.get(..PRINTED) {
+        Some(front) if !whole => {
+            out.extend_from_slice(whole_characters(front))?;
+            put(&["..."], out)
+        }
+        _ => out.extend_from_slice(object),
+    }
+}
+
+/// The first of these bytes, as far as they are whole characters.
+fn whole_characters(bytes: &[u8]) -> &[u8] {
+    match str::from_utf8(bytes) {
+        Ok(_) => bytes,
+        Err(error) => bytes.get(..error.valid_up_to()).unwrap_or(bytes),
+    }
 }
 
 fn put_place_json(
@@ -100,23 +125,38 @@ fn put_place_json(
     difference: &Difference,
     out: &mut Vec<u8>,
 ) -> Result<(), AllocError> {
-    let Difference::At {
-        kind,
-        id,
-        primary,
-        screen,
-    } = difference
-    else {
-        return put(&[",\"why\":\"same\""], out);
-    };
+    match difference {
+        Difference::At {
+            kind,
+            id,
+            primary,
+            screen,
+        } => {
+            put_name_json(alloc, kind, id.as_ref(), out)?;
+            put_of_json(",\"of\":", primary, out)?;
+            put_of_json(",\"against\":", screen, out)
+        }
+        _ => put(&[",\"why\":\"same\""], out),
+    }
+}
+
+/// Appends a collection, and the id of an object in it, which may be `null`.
+fn put_name_json(
+    alloc: Global,
+    kind: &Name,
+    id: Option<&Name>,
+    out: &mut Vec<u8>,
+) -> Result<(), AllocError> {
     put(&[",\"why\":\"tables\",\"type\":"], out)?;
     encode_string(alloc, kind.text(), out)?;
     put(&[",\"id\":"], out)?;
-    put_id_json(alloc, id.as_ref(), out)?;
-    put(&[",\"of\":"], out)?;
-    put_side_json(primary, out)?;
-    put(&[",\"against\":"], out)?;
-    put_side_json(screen, out)
+    put_id_json(alloc, id, out)
+}
+
+/// Appends what one of them has there, behind the name of the member.
+fn put_of_json(before: &str, side: &Side, out: &mut Vec<u8>) -> Result<(), AllocError> {
+    put(&[before], out)?;
+    put_side_json(side, out)
 }
 
 fn put_id_json(alloc: Global, id: Option<&Name>, out: &mut Vec<u8>) -> Result<(), AllocError> {
