@@ -3,9 +3,10 @@ sources, as far as that can be seen with no proof."""
 import re
 import sys
 from functools import cache
+from hashlib import sha256
 
 from common import TOP
-from contracts import FUNCTION, contract_at, function_with, head_of, is_of_trait
+from contracts import FUNCTION, QUOTED, contract_at, function_with, head_of, is_of_trait
 
 # The set of the edits that tools/check doesn't try.
 FURTHER = "further"
@@ -59,6 +60,34 @@ class Edit:
 
 def every_edit():
     return [Edit(path) for path in sorted(TOP.glob("crates/*/edits/*.edit"))]
+
+
+# ---- on which sources all edits of a crate were refused
+
+
+def record_of(crate):
+    """The file that says on which sources all edits of a crate were refused last; it may be missing."""
+    return TOP / "crates" / crate / "edits" / "TRIED"
+
+
+def recorded(crate, edits):
+    """What that file says if all edits of the crate, which are these, were refused on its sources as they are now. The
+    sources are its code and its definitions, without comments: on proofs no refusal depends."""
+    folder, found = TOP / "crates" / crate, sha256()
+    for file in sorted([*folder.glob("src/**/*.rt"), *folder.glob("specs/**/*.antt")]):
+        found.update(f"{file.relative_to(folder)}\n{without_comments(file)}\n".encode())
+    for it in edits:
+        found.update(f"{it.name} {it.function} {it.clause} {it.pairs}\n".encode())
+    return f"{len(edits)} edits, each refused on the sources with the sum {found.hexdigest()[:16]}\n"
+
+
+def without_comments(file):
+    """The lines of a file of sources that are no comments, and not empty."""
+    text = file.read_text()
+    if file.suffix == ".rt":
+        text = QUOTED.sub(lambda found: "" if found[0].startswith("//") else found[0], text)
+    lines = [line.rstrip() for line in text.split("\n")]
+    return "\n".join(line for line in lines if line and not line.lstrip().startswith("--"))
 
 
 # ---- whether an edit fits the sources
