@@ -349,11 +349,12 @@ impl Source {
         });
     }
 
-    /// Reports that the connection ends before what came on it has settled.
+    /// Reports that the connection ends before what came on it has settled. A response without a
+    /// good head, as an error, has no feed that could settle.
     pub(crate) fn report_unsettled(&self, desk: &mut Desk)
         ensures { desk.new.time ≡ desk.old.time }
     {
-        if self.coming.is_some() && self.settling.bytes > 0 {
+        if self.coming.is_some() && self.body_since.is_some() && self.settling.bytes > 0 {
             desk.reports.add(Report::Unsettled {
                 server: self.upstream.place(),
                 bytes: self.settling.bytes,
