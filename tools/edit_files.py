@@ -78,7 +78,7 @@ def recorded(crate, edits):
         found.update(f"{file.relative_to(folder)}\n{without_comments(file)}\n".encode())
     for it in edits:
         found.update(f"{it.name} {it.function} {it.clause} {it.pairs}\n".encode())
-    return f"{len(edits)} edits, each refused on the sources with the sum {found.hexdigest()[:16]}\n"
+    return f"edits: {len(edits)}, each refused on the sources with the sum {found.hexdigest()[:16]}\n"
 
 
 def without_comments(file):
