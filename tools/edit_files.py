@@ -72,7 +72,7 @@ def record_of(crate):
 
 def recorded(crate, edits):
     """What that file says if all edits of the crate, which are these, were refused on its sources as they are now. The
-    sources are its code and its definitions, without comments: on proofs no refusal depends."""
+    sources are its code and its definitions, without comments. Proofs don't count, since they change no contract."""
     folder, found = TOP / "crates" / crate, sha256()
     for file in sorted([*folder.glob("src/**/*.rt"), *folder.glob("specs/**/*.antt")]):
         found.update(f"{file.relative_to(folder)}\n{without_comments(file)}\n".encode())
