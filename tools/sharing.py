@@ -3,8 +3,8 @@
 
 The toolchain's gate proves one crate after another, so it decides how long tools/check takes, and must not be slowed
 by what runs beside it. Two things see to that. What runs beside it has the lowest priority; and heavy commands, such
-as builds and proofs, take a slot each, of which there is one for four processors, or as many as memory bears. Without
-the gate there is one a processor."""
+as builds and proofs, take a slot each, of which there are half as many as processors, or as many as memory bears.
+Without the gate there is one a processor."""
 import errno
 import fcntl
 import os
@@ -79,12 +79,11 @@ def shared_slots(is_beside):
 
 
 def slots(is_beside):
-    """As many as there are processors, but at least one and no more than there is memory for. Beside the gate a quarter of
-    these: two processors mostly share a core, so even what has the lowest priority slows it, and on four the gate uses
-    two or three itself."""
+    """As many as there are processors, but at least one and no more than there is memory for. Beside the gate half as many:
+    two processors mostly share a core, so even what has the lowest priority slows it."""
     if not is_beside:
         return max(1, min(processors(), memory() // OF_ONE))
-    return max(1, min(processors() // 4, (memory() - OF_GATE) // OF_ONE))
+    return max(1, min(processors() // 2, (memory() - OF_GATE) // OF_ONE))
 
 
 def lanes():
