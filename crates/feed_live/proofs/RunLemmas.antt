@@ -16,10 +16,9 @@ use Rattle.feed_live.specs.declared.turn.Input.TheVariants.{Nothing, Bytes, End}
 use Rattle.feed_live.specs.declared.turn.Live.{Live}
 use Rattle.feed_live.specs.declared.turn.Turn.{Turn}
 use Rattle.feed_live.specs.Due.{IsDueInTime}
-use Rattle.feed_live.specs.Laws.{ShowsTheLog}
 use Rattle.feed_live.specs.Leaving.{LooksInTime, silent_at}
 use Rattle.feed_live.specs.Relaying.{IsRelaying, RestsAway, StillRelaying, SameWaiting}
-use Rattle.feed_live.specs.Running.{InputSoFar, nothing_came, has_ended_by, came_on, came_more, HostCalls, waited_for, reported_once, Surroundings, surroundings, Moment, moment_of, node_at_moment, KeepsFilesAt, at_once, RunsFrom, IsRelayOver, IsTurn, IsSameRelay, IsRun, waited_at, calls_in, HasRun, servers_of_setup, AreUnused, AreAllFilesOfLog, BeginsAsSetUp, IsKnownHonestInput, EndsWithItsInput, TakesAllAt, EndsOrStops, TakesItsInput, KeepsToTheLog}
+use Rattle.feed_live.specs.Running.{InputSoFar, nothing_came, has_ended_by, came_on, came_more, HostCalls, waited_for, reported_once, Surroundings, surroundings, Moment, moment_of, node_at_moment, KeepsFilesAt, at_once, RunsFrom, IsRelayOver, IsTurn, IsSameRelay, IsRun, waited_at, calls_in, HasRun, servers_of_setup, AreUnused, AreAllFilesOfLog, BeginsAsSetUp, ShowsTheLogAt, ShowsIfHonestAt, FollowsInOrderAt, IsKnownHonestInput, ShowsIfInputIsHonestAt, EndsWithItsInput, TakesAllAt, EndsOrStops, TakesItsInput, KeepsPartsWhileShown, KeepsToTheLog}
 use Rattle.feed_files.specs.Saved.{ArePartsOfRecords, KeepsFiles}
 use Rattle.feed_live.specs.Times.{HeedsTime, KeepsTimes}
 use Rattle.feed_live.specs.Taking.{IsTakingInput, StillTaking, bytes_in}
@@ -223,7 +222,7 @@ then_on {first} {between} {last} {calls} {calls_between} {calls_now} {n} {m} two
 
 module _ (limits : Limits) (log : Log) where
   abbrev ShowsAt : Moment → Type 0
-  ShowsAt moment = ShowsTheLog limits log moment.live moment.around.sockets
+  ShowsAt = ShowsTheLogAt limits log
 
   -- what the files have at the last moment
   files_to : (nodes : List NodeState) (files : StateFiles) → AreAllFilesOfLog limits log nodes files → (first last : Moment) (earlier : List Moment) → IsRun first earlier last
@@ -235,15 +234,12 @@ module _ (limits : Limits) (log : Log) where
       let has = of.may_show (node_at_moment last) (among_states limits log (node_at_moment last) shows.0.shown) in
       (run.0.kept nodes has kept.0, run.0.parts nodes has kept.0 kept.1)
 
-  -- and at each
-  all_files : (nodes : List NodeState) (files : StateFiles) → AreAllFilesOfLog limits log nodes files → (first last : Moment) (earlier : List Moment) → IsRun first earlier last
-      → AllByRecursion ShowsAt (last ∷ earlier) → KeepsFilesAt nodes first → ArePartsOfRecords nodes first.around.files.had
-      → AllByRecursion (λ m. ArePartsOfRecords nodes m.around.files.had) (last ∷ earlier)
-  all_files nodes files of first last [] run shows keeps parts = ((files_to nodes files of first last [] run shows keeps parts).1, tt)
-  all_files nodes files of first last (before ∷ earlier) run shows keeps parts = (
-    (files_to nodes files of first last (before ∷ earlier) run shows keeps parts).1,
-    all_files nodes files of first before earlier run.1 shows.1 keeps parts,
-  )
+  -- and at each, as long as the log is shown
+  each_file : (nodes : List NodeState) (files : StateFiles) → AreAllFilesOfLog limits log nodes files → (first last : Moment) (earlier : List Moment) → IsRun first earlier last
+      → KeepsFilesAt nodes first → ArePartsOfRecords nodes first.around.files.had → KeepsPartsWhileShown limits log nodes (last ∷ earlier)
+  each_file nodes files of first last [] run keeps parts = (λ shows. (files_to nodes files of first last [] run shows keeps parts).1, tt)
+  each_file nodes files of first last (before ∷ earlier) run keeps parts =
+      (λ shows. (files_to nodes files of first last (before ∷ earlier) run shows keeps parts).1, each_file nodes files of first before earlier run.1 keeps parts)
 
   -- a relay that follows servers
   module _ (servers : Servers) (first : Moment) (relaying : IsRelaying limits log servers first.around.exchanges first.live first.around.sockets) where
@@ -254,10 +250,13 @@ module _ (limits : Limits) (log : Log) where
     shows_to : (last : Moment) (earlier : List Moment) → IsRun first earlier last → AreKnownHonest limits log servers last.around.exchanges → ShowsAt last
     shows_to last earlier run honest = relays_show_the_log limits log servers last.around.exchanges last.live last.around.sockets honest (relaying_to last earlier run)
 
-    all_show : (last : Moment) (earlier : List Moment) → IsRun first earlier last
-        → AllByRecursion (λ m. AreKnownHonest limits log servers m.around.exchanges) (last ∷ earlier) → AllByRecursion ShowsAt (last ∷ earlier)
-    all_show last [] run honest = (shows_to last [] run honest.0, tt)
-    all_show last (before ∷ earlier) run honest = (shows_to last (before ∷ earlier) run honest.0, all_show before earlier run.1 honest.1)
+    each_shows : (last : Moment) (earlier : List Moment) → IsRun first earlier last → AllByRecursion (ShowsIfHonestAt limits log servers) (last ∷ earlier)
+    each_shows last [] run = (shows_to last [] run, tt)
+    each_shows last (before ∷ earlier) run = (shows_to last (before ∷ earlier) run, each_shows before earlier run.1)
+
+    each_follows : (last : Moment) (earlier : List Moment) → IsRun first earlier last → AllByRecursion (FollowsInOrderAt limits log servers) (last ∷ earlier)
+    each_follows last [] run = ((relaying_to last [] run).1.1.1, tt)
+    each_follows last (before ∷ earlier) run = ((relaying_to last (before ∷ earlier) run).1.1.1, each_follows before earlier run.1)
 
   -- a relay whose feed is its input
   module _ (begun : MirrorState) (first : Moment) (none_came : first.around.input ≡ Some nothing_came) (taking : IsTakingInput limits log begun [] first.live first.around.sockets) where
@@ -275,10 +274,9 @@ module _ (limits : Limits) (log : Log) where
     takes_so_far last takes honest =
         input_shows_the_log limits log begun takes.0.bytes last.live last.around.sockets (subst (IsKnownHonestInput limits log begun) takes.1 honest) takes.2
 
-    all_take : (last : Moment) (earlier : List Moment) → IsRun first earlier last
-        → AllByRecursion (λ m. IsKnownHonestInput limits log begun m.around.input) (last ∷ earlier) → AllByRecursion ShowsAt (last ∷ earlier)
-    all_take last [] run honest = (takes_so_far last (taking_to last [] run) honest.0, tt)
-    all_take last (before ∷ earlier) run honest = (takes_so_far last (taking_to last (before ∷ earlier) run) honest.0, all_take before earlier run.1 honest.1)
+    each_takes : (last : Moment) (earlier : List Moment) → IsRun first earlier last → AllByRecursion (ShowsIfInputIsHonestAt limits log begun) (last ∷ earlier)
+    each_takes last [] run = (takes_so_far last (taking_to last [] run), tt)
+    each_takes last (before ∷ earlier) run = (takes_so_far last (taking_to last (before ∷ earlier) run), each_takes before earlier run.1)
 
     -- what a turn does with its input, where all was taken before it
     takes_on : (before last : Moment) (earlier : List Moment) → IsTurn before last → TakesTo before → before.live.feeds ≡ true → (feeds : Bool) → last.live.feeds ≡ feeds
@@ -368,29 +366,36 @@ pub keeps_to_the_log : (setup : Setup) (found : Surroundings) (first last : Mome
     → first.around.sockets ≡ found.sockets → first.around.input ≡ found.input → IsRun first earlier last → KeepsToTheLog setup found (last ∷ earlier)
 keeps_to_the_log setup found first last earlier begins sockets input run =
     record {
-      servers = λ log some of_log unused honest.
-          all_show setup.kept log (servers_of_setup setup) first
-          (begins.relaying log first.around.exchanges first.around.sockets some of_log (subst AreUnused (sym sockets) unused)) last earlier run honest;
-      input = λ log none unused came honest.
-          all_take setup.kept log (new_mirror setup.kept) first (input ∙ came)
-          (begins.taking log first.around.sockets none (subst AreUnused (sym sockets) unused)) last earlier run honest;
+      servers = λ log some of_log unused.
+          each_shows setup.kept log (servers_of_setup setup) first
+          (begins.relaying log first.around.exchanges first.around.sockets some of_log (subst AreUnused (sym sockets) unused)) last earlier run;
+      followed = λ log some of_log unused.
+          each_follows setup.kept log (servers_of_setup setup) first
+          (begins.relaying log first.around.exchanges first.around.sockets some of_log (subst AreUnused (sym sockets) unused)) last earlier run;
+      input = λ log none unused came.
+          each_takes setup.kept log (new_mirror setup.kept) first (input ∙ came)
+          (begins.taking log first.around.sockets none (subst AreUnused (sym sockets) unused)) last earlier run;
       taken = λ none unused came.
           takes_input setup.kept (numbered []) (new_mirror setup.kept) first (input ∙ came)
           (begins.taking (numbered []) first.around.sockets none (subst AreUnused (sym sockets) unused)) (begins.feeds none) last earlier run;
-      files = λ log nodes of shows.
-          all_files setup.kept log nodes found.files of first last earlier run shows (begins.kept log nodes of)
+      files = λ log nodes of.
+          each_file setup.kept log nodes found.files of first last earlier run (begins.kept log nodes of)
           (subst (ArePartsOfRecords nodes) (sym begins.had) of.of_log.parts);
       ends = all_end setup first (ends_at_first setup first begins.limits begins.goes_on) last earlier run;
     }
 
 -- so it is with turns that led from there to the end, whatever they came to
 pub runs_from : {A E : Type 0} (setup : Setup) (found : Surroundings) (first last : Moment) {calls calls_begun calls_now : HostCalls} {count : ℕ} (result : Result A E)
-    → BeginsAsSetUp setup found.files first.around.files first.live → first.next ≡ at_once → first.around.sockets ≡ found.sockets → first.around.input ≡ found.input → calls_begun ≡ calls
+    → BeginsAsSetUp setup found.files first.around.files first.live → first.next ≡ at_once → first.around.exchanges ≡ found.exchanges → first.around.sockets ≡ found.sockets → first.around.input ≡ found.input → calls_begun ≡ calls
     → HasRun first last calls_begun calls_now count → OnOk result ((last.next.is_over ≡ true) ⊎ (count ≡ 2 ^ 64 - 1)) → RunsFrom setup found last.around calls calls_now result
-runs_from setup found first last {count = count} result begins at_first sockets input same run ends =
+runs_from setup found first last {count = count} result begins at_first exchanges sockets input same run ends =
     record {
       first = first;
       contest = begins.contest;
+      begins = begins;
+      exchanges = exchanges;
+      sockets = sockets;
+      input = input;
       first_is = at_first;
       last = last;
       last_is = refl;

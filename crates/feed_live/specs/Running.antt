@@ -1,5 +1,5 @@
 -- A run of a relay: what it begins with, and turn after turn, to its end.
-use Rattle.std.specs.Prelude.{◌≡◌, ◌≢◌, ◌⊎◌, ◌↔◌, ℕ, suc, ◌+◌, ◌-◌, ◌^◌, ◌<◌, ◌≤◌, min, Bool, true, false, List, [], ◌∷◌, ◌++◌, length, map, Option, Some, None, option_map, is_none, ◌&&◌, IfSome, Contains, Result, OnOk, IsErr}
+use Rattle.std.specs.Prelude.{◌≡◌, ◌≢◌, ◌⊎◌, ◌↔◌, ℕ, suc, ◌+◌, ◌-◌, ◌^◌, ◌<◌, ◌≤◌, min, Bool, true, false, List, [], ◌∷◌, ◌++◌, length, map, Option, Some, None, option_map, is_none, ◌&&◌, IfSome, IsSome, Contains, Result, OnOk, IsErr}
 use Rattle.std.specs.List.{AllByRecursion}
 use Rattle.slab.specs.Slab.{slab_len}
 use Rattle.feed_settings.specs.Limits.{Limits}
@@ -22,7 +22,7 @@ use Rattle.feed_live.specs.declared.turn.Turn.{Turn}
 use Rattle.feed_live.specs.Due.{IsDueInTime}
 use Rattle.feed_live.specs.Ending.{EndsWithInput}
 use Rattle.feed_live.specs.Laws.{ShowsTheLog}
-use Rattle.feed_live.specs.Relaying.{IsRelaying, RestsAway, SameWaiting, StillRelaying}
+use Rattle.feed_live.specs.Relaying.{IsRelaying, MayFollow, pursuit_of, RestsAway, SameWaiting, StillRelaying}
 use Rattle.feed_live.specs.Leaving.{IsToStay}
 use Rattle.feed_live.specs.declared.source.Reach.TheVariants.{Away}
 use Rattle.feed_files.specs.Saved.{ArePartsOfRecords, KeepsFiles}
@@ -261,10 +261,32 @@ pub record BeginsAsSetUp (setup : Setup) (old new : StateFiles) (live : Live) : 
 
 -- ---- the promise
 
+-- what it shows, and all that was ever written to a connection of a screen, is of the log
+abbrev pub ShowsTheLogAt : Limits → Log → Moment → Type 0
+ShowsTheLogAt limits log moment = ShowsTheLog limits log moment.live moment.around.sockets
+
+-- where these servers were honest up to this moment, it shows the log then
+abbrev pub ShowsIfHonestAt : Limits → Log → Servers → Moment → Type 0
+ShowsIfHonestAt limits log servers moment =
+    AreKnownHonest limits log servers moment.around.exchanges → ShowsTheLogAt limits log moment
+
+-- Whether these servers are honest or not: what was read on the latest connection is followed, each
+-- byte once, in order, but for what is still unread; or there is none.
+abbrev pub FollowsInOrderAt : Limits → Log → Servers → Moment → Type 0
+FollowsInOrderAt limits log servers moment =
+    IsSome moment.around.exchanges
+    → MayFollow limits log servers moment.around.exchanges
+    (pursuit_of moment.live.source moment.live.source.rest.items)
+
 -- what the input gave is known, and honest to the mirror that the relay began with
 abbrev pub IsKnownHonestInput : Limits → Log → MirrorState → Option InputSoFar → Type 0
 IsKnownHonestInput limits log begun None = ⊥
 IsKnownHonestInput limits log begun (Some came) = IsHonestInput limits log begun came.bytes
+
+-- where its input was honest up to this moment, it shows the log then
+abbrev pub ShowsIfInputIsHonestAt : Limits → Log → MirrorState → Moment → Type 0
+ShowsIfInputIsHonestAt limits log begun moment =
+    IsKnownHonestInput limits log begun moment.around.input → ShowsTheLogAt limits log moment
 
 -- the relay takes all that its input gave: each byte was followed once, in order, or is kept
 pub record TakesAllAt (begun : MirrorState) (moment : Moment) : Type 0 where
@@ -298,6 +320,16 @@ TakesItsInput begun [] = Unit {0}
 TakesItsInput begun (latest ∷ earlier) =
     (TakesAllAt begun latest ⊎ EndsOrStops begun (latest ∷ earlier)) × TakesItsInput begun earlier
 
+-- at each of these moments, of which each comes before those behind it in the run: where the relay
+-- showed the log up to that one, all that its state files ever had until then is some of what
+-- records of these nodes wrote
+abbrev pub KeepsPartsWhileShown : Limits → Log → List NodeState → List Moment → Type 0
+KeepsPartsWhileShown limits log nodes [] = Unit {0}
+KeepsPartsWhileShown limits log nodes (latest ∷ earlier) =
+    (AllByRecursion (ShowsTheLogAt limits log) (latest ∷ earlier)
+    → ArePartsOfRecords nodes latest.around.files.had)
+    × KeepsPartsWhileShown limits log nodes earlier
+
 -- It is set to what was asked for. It has an end only where it is to end with its input, and that
 -- has ended, as far as it is known what the input gave.
 pub record EndsWithItsInput (setup : Setup) (moment : Moment) : Type 0 where
@@ -305,41 +337,42 @@ pub record EndsWithItsInput (setup : Setup) (moment : Moment) : Type 0 where
   pub ends : moment.live.ends_at ≢ None → (setup.limits.ends_with_input ≡ true)
       × IfSome moment.around.input (λ came. came.has_ended ≡ true)
 
--- THE PROMISE of a whole run, from the files that it finds to its end, at each of its moments. It
--- shows only states of the log, and all that was ever written to a connection of a screen is
--- faithful: where it follows servers, and these were honest; or where its feed is its input, and
--- that was honest. Whether it was or not, it is taken byte by byte. And where all that the state
--- files ever had was written by records of nodes of the log, that stays so. It ends with its input,
--- or not at all.
+-- THE PROMISE of a whole run, from the files that it finds to its end, at each of its moments, by
+-- what came until then. It shows only states of the log, and all that was ever written to a
+-- connection of a screen is faithful: where it follows servers, and these were honest so far; or
+-- where its feed is its input, and that was honest so far. What comes later takes nothing of that
+-- back. Whether they were honest or not, what came is followed byte by byte. And as long as the
+-- relay shows the log, where all that the state files ever had was written by records of nodes of
+-- the log, that stays so. It ends with its input, or not at all.
 pub record KeepsToTheLog (setup : Setup) (found : Surroundings) (moments : List Moment)
     : Type 0 where
   pub servers : (log : Log) → setup.places.items ≢ [] → BeginsInLog setup log found.files
       → AreUnused found.sockets
-      → AllByRecursion (λ moment. AreKnownHonest setup.kept log (servers_of_setup setup)
-      moment.around.exchanges) moments
-      → AllByRecursion (λ moment. ShowsTheLog setup.kept log moment.live moment.around.sockets)
-      moments
+      → AllByRecursion (ShowsIfHonestAt setup.kept log (servers_of_setup setup)) moments
+  pub followed : (log : Log) → setup.places.items ≢ [] → BeginsInLog setup log found.files
+      → AreUnused found.sockets
+      → AllByRecursion (FollowsInOrderAt setup.kept log (servers_of_setup setup)) moments
   pub input : (log : Log) → setup.places.items ≡ [] → AreUnused found.sockets
       → found.input ≡ Some nothing_came
-      → AllByRecursion (λ moment. IsKnownHonestInput setup.kept log (new_mirror setup.kept)
-      moment.around.input) moments
-      → AllByRecursion (λ moment. ShowsTheLog setup.kept log moment.live moment.around.sockets)
-      moments
+      → AllByRecursion (ShowsIfInputIsHonestAt setup.kept log (new_mirror setup.kept)) moments
   pub taken : setup.places.items ≡ [] → AreUnused found.sockets
       → found.input ≡ Some nothing_came → TakesItsInput (new_mirror setup.kept) moments
   pub files : (log : Log) (nodes : List NodeState)
       → AreAllFilesOfLog setup.kept log nodes found.files
-      → AllByRecursion (λ moment. ShowsTheLog setup.kept log moment.live moment.around.sockets)
-      moments
-      → AllByRecursion (λ moment. ArePartsOfRecords nodes moment.around.files.had) moments
+      → KeepsPartsWhileShown setup.kept log nodes moments
   pub ends : AllByRecursion (EndsWithItsInput setup) moments
 
--- Turn after turn led from the start to what was left. The relay is of its contest, its first turn
--- is due at once, and it keeps to the log from the first moment to the last.
+-- Turn after turn led from the start to what was left. The relay is of its contest, and begins as it
+-- is set up; its first turn is due at once, and until then nothing around it is touched but the
+-- state files. It keeps to the log from the first moment to the last.
 pub record RunsFrom {A E : Type 0} (setup : Setup) (found left : Surroundings)
     (before after : HostCalls) (result : Result A E) : Type 0 where
   pub first : Moment
   pub contest : first.live.contest ≡ setup.contest
+  pub begins : BeginsAsSetUp setup found.files first.around.files first.live
+  pub exchanges : first.around.exchanges ≡ found.exchanges
+  pub sockets : first.around.sockets ≡ found.sockets
+  pub input : first.around.input ≡ found.input
   pub first_is : first.next ≡ at_once
   pub last : Moment
   pub last_is : last.around ≡ left

@@ -22,7 +22,7 @@ returns-in-Ok-clause-run g c =
     (moment_of c.in_ok-live.live at_once (g.H.Host.time c.begin.new.host) (around (g.D.Store.files c.begin.new.store) (g.H.Host.input c.begin.new.host)))
     (moment_of c.run_turns-ended.new.live ran.0 ran.1 (surroundings (g.L.Link.exchanges c.run_turns-ended.new.devices.link) (g.S.Sockets.socket c.run_turns-ended.new.devices.sockets)
     (g.D.Store.files c.run_turns-ended.new.devices.store) (g.H.Host.input c.run_turns-ended.new.host)))
-    _ c.in_ok-live.ensures.begins refl refl c.in_ok-live.ensures.input c.in_ok-live.ensures.calls ran.2.run ran.2.ends)
+    _ c.in_ok-live.ensures.begins refl refl refl c.in_ok-live.ensures.input c.in_ok-live.ensures.calls ran.2.run ran.2.ends)
 
 pub returns-in-Err-clause-run : goal.returns-in-Err-clause-run
 returns-in-Err-clause-run g c =
@@ -33,4 +33,4 @@ returns-in-Err-clause-run g c =
     (moment_of c.in_ok-live.live at_once (g.H.Host.time c.begin.new.host) (around (g.D.Store.files c.begin.new.store) (g.H.Host.input c.begin.new.host)))
     (moment_of c.run_turns-ended.new.live ran.0 ran.1 (surroundings (g.L.Link.exchanges c.run_turns-ended.new.devices.link) (g.S.Sockets.socket c.run_turns-ended.new.devices.sockets)
     (g.D.Store.files c.run_turns-ended.new.devices.store) (g.H.Host.input c.run_turns-ended.new.host)))
-    _ c.in_ok-live.ensures.begins refl refl c.in_ok-live.ensures.input c.in_ok-live.ensures.calls ran.2.run tt)
+    _ c.in_ok-live.ensures.begins refl refl refl c.in_ok-live.ensures.input c.in_ok-live.ensures.calls ran.2.run tt)
