@@ -1,6 +1,6 @@
 -- What a session is sent while its primary takes batches.
-use Rattle.std.proofs.Common.{◌≡◌, refl, sym, ap, ◌∙◌, subst, ℕ, zero, suc, ◌+◌, ◌-◌, ◌<◌, ◌≤◌, Bool, true, false, true≢false, List, [], ◌∷◌, ◌++◌, length, take, drop, get_or, arith, inl, inr, Option, Some, None, append_assoc, append-nil, length-append, length-drop, length-take, map, cond, not, nat_lt}
-use Rattle.std.specs.Prelude.{◌⊎◌, MatchOption, Vec, min, IfSome, is_some, slice_get}
+use Rattle.std.proofs.Common.{◌≡◌, refl, sym, ap, ◌∙◌, subst, ℕ, zero, suc, ◌+◌, ◌-◌, ◌<◌, ◌≤◌, Bool, true, false, true≢false, List, [], ◌∷◌, ◌++◌, length, take, drop, get_or, arith, inl, inr, Option, Some, None, append_assoc, append-nil, length-append, length-drop, length-take, map, cond, not, nat_lt, ◌&&◌}
+use Rattle.std.specs.Prelude.{◌⊎◌, MatchOption, Vec, min, if◌then◌else◌, IfSome, slice_get}
 use Rattle.std.specs.List.{prefix_len}
 use Rattle.std.specs.Option.{option_and_then}
 use Rattle.std.specs.Str.{bytes_eq}
@@ -9,16 +9,18 @@ use Rattle.std.proofs.KnownBytes.{Appends-trans}
 use Rattle.std.proofs.Math.ListN.{get_or-append}
 use Rattle.std.proofs.lemmas.List.{get_or-drop}
 use Rattle.std.proofs.lemmas.Option.{slice_get-get_or, slice_get_within}
-use Rattle.std.proofs.lemmas.Bool.{cases_lt, cases_Bool}
+use Rattle.std.proofs.lemmas.Bool.{cases_lt, cases_Bool, and_right}
 use Rattle.std.proofs.lemmas.Bool.Decides.{nat_tests}
 use Rattle.std.proofs.lemmas.Slice.Eq.{bytes_eq-Decides}
 use Rattle.feed_settings.specs.Limits.{History}
 use Rattle.feed_settings.specs.declared.framing.Framing.{Framing}
 use Rattle.feed_changes.specs.declared.change.Change.{Change}
+use Rattle.feed_tables.specs.Amounts.{changes_bytes}
 use Rattle.feed_node.specs.Publishing.{Published}
 use Rattle.feed_node.specs.declared.commit.Commit.{Commit}
 use Rattle.feed_node.specs.Log.{PrimaryState, token_after}
-use Rattle.feed_node.specs.Kept.{kept_of, most_kept}
+use Rattle.feed_node.specs.Bounds.{passes}
+use Rattle.feed_node.specs.Kept.{are_heavy, commits_bytes, many_within, kept_of, most_kept}
 use Rattle.feed_node.specs.States.{NodeState, nothing_published, token_of, place_of, keep_last, HoldsItsTokens, IsConsistent}
 use Rattle.feed_node.specs.Serving.{is_published, token_before, commit_text}
 use Rattle.feed_answer.specs.Answered.{AnswersTo, parts_of, answer_to, answer_opened}
@@ -30,9 +32,12 @@ use Rattle.feed_http.specs.Device.{counted}
 use Rattle.feed_http.specs.Sessions.{Nothing_new, Lost, next}
 use Rattle.feed_http.specs.Serving.{HasAll, commit_frames}
 use Rattle.feed_http.specs.Sending.{Sent, sent_none, sent_one, WroteCommits}
-use Rattle.feed_http.specs.Live.{Intake, intake_of, Accepts, accepts_none, accepts_one, TakesTurn, MayLoseTokens, HasSent, commit_sent, IsOver, SendsLive, IsCutShort}
+use Rattle.feed_http.specs.Live.{Intake, intake_of, Accepts, accepts_none, accepts_one, TakesTurn, batches_bytes, are_heavy_batches, left_behind, MayLoseTokens, HasSent, commit_sent, IsOver, SendsLive, IsCutShort}
 use Rattle.feed_http.specs.Taking.{IsHeld}
+use Rattle.feed_node.proofs.Bounds.{less_passes, over}
 use Rattle.feed_node.proofs.Keeping.{tokens-length}
+use Rattle.feed_node.proofs.Kept.{many_all}
+use Rattle.feed_node.proofs.Latest.{drop-both}
 use Rattle.feed_http.proofs.ServingLemmas.{next_moves, frames-append}
 use Rattle.feed_http.proofs.RestLemmas.{new_is_published, last_is, never_lost}
 
@@ -68,25 +73,124 @@ keeps_one many_kept held last token place many at few is =
           ∙ get_or-append held (last ∷ []) [] place (omega arith) ∙ is,
     )
 
--- where bytes are not limited the count alone says how many are kept
-by_commits : (history : History) (cs : List Commit) → history.bytes ≡ None → most_kept history cs ≡ history.commits
-by_commits history cs any = ap (λ bytes. kept_of history.commits bytes cs) any
+-- ---- what fits is kept
 
--- the last token is held behind batches of which no more come than are kept
+-- the changes of a commit
+abbrev batch_of : Commit → List Change
+batch_of commit = commit.changes
+
+-- so are batches light that are fewer
+light_part : (limit : Option ℕ) (batches : List (List Change)) (batch : List Change)
+    → are_heavy_batches limit (batches ++ batch ∷ []) ≡ false → are_heavy_batches limit batches ≡ false
+light_part limit batches batch light = by (nat_lt 1 (length batches)) refl
+  where
+    grown : length (batches ++ batch ∷ []) ≡ length batches + 1
+    grown = length-append batches (batch ∷ [])
+
+    less : (bs : List (List Change)) → batches_bytes bs ≤ batches_bytes (bs ++ batch ∷ [])
+    less [] = omega arith
+    less (b ∷ bs) = let later = less bs in omega arith
+
+    both : (a b : Bool) → (a && b) ≡ false → a ≡ true → b ≡ false
+    both true b e is = e
+    both false b e is = absurd (true≢false (sym is))
+
+    by : (many : Bool) → nat_lt 1 (length batches) ≡ many → are_heavy_batches limit batches ≡ false
+    by false is = ap (λ m. m && passes limit (batches_bytes batches)) is
+    by true is =
+        let some : 1 < length batches = grind (arith, nat_tests) in
+        let fits = both (nat_lt 1 (length (batches ++ batch ∷ []))) (passes limit (batches_bytes (batches ++ batch ∷ []))) light
+        (sym (over 1 (length (batches ++ batch ∷ [])) (omega (arith, grown, some)))) in
+        ap (λ b. nat_lt 1 (length batches) && b) (less_passes limit (batches_bytes batches) (batches_bytes (batches ++ batch ∷ [])) (less batches) fits)
+        ∙ and_right (nat_lt 1 (length batches)) false refl
+
+-- commits are as heavy as their batches
+many_same : (cs : List Commit) (batches : List (List Change)) → map batch_of cs ≡ batches → length cs ≡ length batches
+many_same [] batches e = ap length e
+many_same (c ∷ cs) batches e = ap suc (many_same cs (map batch_of cs) refl) ∙ ap length e
+
+bytes_same : (cs : List Commit) (batches : List (List Change)) → map batch_of cs ≡ batches → commits_bytes cs ≡ batches_bytes batches
+bytes_same [] batches e = ap batches_bytes e
+bytes_same (c ∷ cs) batches e = ap (λ n. changes_bytes c.changes + n) (bytes_same cs (map batch_of cs) refl) ∙ ap batches_bytes e
+
+heavy_same : (limit : Option ℕ) (cs : List Commit) (batches : List (List Change)) → map batch_of cs ≡ batches
+    → are_heavy limit cs ≡ are_heavy_batches limit batches
+unfolding are_heavy
+heavy_same limit cs batches e =
+    ap (λ n. nat_lt 1 n && passes limit (commits_bytes cs)) (many_same cs batches e)
+    ∙ ap (λ n. nat_lt 1 (length batches) && passes limit n) (bytes_same cs batches e)
+
+-- the latest are kept, whatever is before them, where they fit
+fits_behind : (most : ℕ) (before cs : List Commit) → are_heavy (Some most) cs ≡ false
+    → length cs ≤ many_within most (before ++ cs)
+fits_behind most [] cs light = let all = many_all most cs light in omega arith
+fits_behind most (c ∷ before) cs light = by (are_heavy (Some most) (c ∷ before ++ cs)) (fits_behind most before cs light)
+  where
+    by : (b : Bool) → length cs ≤ many_within most (before ++ cs)
+        → length cs ≤ (if b then many_within most (before ++ cs) else suc (length (before ++ cs)))
+    by true fits = fits
+    by false fits = let long = length-append before cs in omega arith
+
+kept_behind : (history : History) (before cs : List Commit) → length cs ≤ history.commits
+    → are_heavy history.bytes cs ≡ false → length cs ≤ most_kept history (before ++ cs)
+kept_behind history before cs few light = by history.bytes light
+  where
+    by : (bytes : Option ℕ) → are_heavy bytes cs ≡ false → length cs ≤ kept_of history.commits bytes (before ++ cs)
+    by None e = few
+    by (Some most) e = let fits = fits_behind most before cs e in omega arith
+
+-- commits of these batches are kept, and are the latest
+record KeepsLatest (batches : List (List Change)) (kept : List Commit) : Type 0 where
+  pub before : List Commit
+  pub latest : List Commit
+  pub kept_is : kept ≡ before ++ latest
+  pub are : map batch_of latest ≡ batches
+
+are_more : (cs : List Commit) (batches : List (List Change)) (c : Commit) → map batch_of cs ≡ batches
+    → map batch_of (cs ++ c ∷ []) ≡ batches ++ c.changes ∷ []
+are_more [] batches c e = ap (λ l. l ++ c.changes ∷ []) e
+are_more (d ∷ cs) batches c e = ap (λ l. d.changes ∷ l) (are_more cs (map batch_of cs) c refl) ∙ ap (λ l. l ++ c.changes ∷ []) e
+
+keeps_more : (many : ℕ) (batches : List (List Change)) (kept : List Commit) (c : Commit) (keeps : KeepsLatest batches kept)
+    → length (keeps.latest ++ c ∷ []) ≤ many → KeepsLatest (batches ++ c.changes ∷ []) (keep_last many (kept ++ c ∷ []))
+keeps_more many batches kept c keeps enough =
+    let whole : kept ++ c ∷ [] ≡ keeps.before ++ (keeps.latest ++ c ∷ []) =
+    ap (λ l. l ++ c ∷ []) keeps.kept_is ∙ append_assoc keeps.before keeps.latest (c ∷ []) in
+    let long : length (keeps.before ++ (keeps.latest ++ c ∷ [])) ≡ length keeps.before + length (keeps.latest ++ c ∷ []) =
+    length-append keeps.before (keeps.latest ++ c ∷ []) in
+    let dropped = length (keeps.before ++ (keeps.latest ++ c ∷ [])) - many in
+    record {
+      before = drop dropped keeps.before;
+      latest = keeps.latest ++ c ∷ [];
+      kept_is = ap (keep_last many) whole ∙ sym (drop-both dropped keeps.before (keeps.latest ++ c ∷ []) (omega arith));
+      are = are_more keeps.latest batches c keeps.are;
+    }
+
+-- the last token is held behind batches that fit together into what is kept
 turn_holds : (first : PrimaryState) (batches : List (List Change)) (now : PrimaryState) (token : List ℕ) (last : ℕ)
     → Accepts first batches now → last + 1 ≡ length first.node.held → get_or first.node.held last [] ≡ token
-    → length batches ≤ first.limits.history.commits → first.limits.history.bytes ≡ None
-    → (p : ℕ) × (p + length batches + 1 ≡ length now.node.held) × (get_or now.node.held p [] ≡ token)
-turn_holds first batches now token last accepts_none many is few any = (last, omega arith, is)
-turn_holds first batches now token last (accepts_one earlier primary batch run fine) many is few any =
+    → length batches ≤ first.limits.history.commits → are_heavy_batches first.limits.history.bytes batches ≡ false
+    → ((p : ℕ) × (p + length batches + 1 ≡ length now.node.held) × (get_or now.node.held p [] ≡ token)) × KeepsLatest batches now.node.kept
+turn_holds first batches now token last accepts_none many is few light =
+    ((last, omega arith, is), record { before = first.node.kept; latest = []; kept_is = sym (append-nil first.node.kept); are = refl })
+turn_holds first batches now token last (accepts_one earlier primary batch run fine) many is few light =
     let grown : length (earlier ++ batch ∷ []) ≡ length earlier + 1 = length-append earlier (batch ∷ []) in
-    let (p, at, here) = turn_holds first earlier primary token last run many is (omega arith) any in
+    let ((p, at, here), keeps) = turn_holds first earlier primary token last run many is (omega arith) (light_part first.limits.history.bytes earlier batch light) in
     let limits : primary.limits.history ≡ first.limits.history = ap (λ l. l.history) (accepts_limits first earlier primary run) in
     let commits = ap (λ h. h.commits) limits in
-    let cs = primary.node.kept ++ record { changes = batch; token = token_after (primary.count + 1) } ∷ [] in
-    let all : most_kept primary.limits.history cs ≡ primary.limits.history.commits = by_commits primary.limits.history cs (ap (λ h. h.bytes) limits ∙ any) in
+    let c : Commit = record { changes = batch; token = token_after (primary.count + 1) } in
+    let cs = primary.node.kept ++ c ∷ [] in
+    let whole : cs ≡ keeps.before ++ (keeps.latest ++ c ∷ []) =
+    ap (λ l. l ++ c ∷ []) keeps.kept_is ∙ append_assoc keeps.before keeps.latest (c ∷ []) in
+    let are = are_more keeps.latest earlier c keeps.are in
+    let long : length (keeps.latest ++ c ∷ []) ≡ length (earlier ++ batch ∷ []) = many_same (keeps.latest ++ c ∷ []) (earlier ++ batch ∷ []) are in
+    let light_now : are_heavy primary.limits.history.bytes (keeps.latest ++ c ∷ []) ≡ false =
+    ap (λ (h : History). are_heavy h.bytes (keeps.latest ++ c ∷ [])) limits ∙ heavy_same first.limits.history.bytes (keeps.latest ++ c ∷ []) (earlier ++ batch ∷ []) are ∙ light in
+    let enough : length (keeps.latest ++ c ∷ []) ≤ most_kept primary.limits.history cs =
+    subst (λ l. length (keeps.latest ++ c ∷ []) ≤ most_kept primary.limits.history l) (sym whole)
+    (kept_behind primary.limits.history keeps.before (keeps.latest ++ c ∷ []) (omega arith) light_now) in
     let (q, there, found) = keeps_one (most_kept primary.limits.history cs) primary.node.held (token_after (primary.count + 1)) token p (length earlier) at (omega arith) here in
-    (q, omega arith, found)
+    ((q, omega arith, found), keeps_more (most_kept primary.limits.history cs) earlier primary.node.kept c keeps enough)
 
 first_within : (p : List ℕ → Bool) (xs : List (List ℕ)) (k : ℕ) → k < length xs
     → p (get_or xs k []) ≡ true → prefix_len (λ x. not (p x)) xs ≤ k
@@ -131,45 +235,80 @@ sent_held node start to sent consistent (sent_one _ token earlier commit run e) 
     let moves = next_moves node token commit consistent e in
     (moves.place + 1, moves.behind)
 
--- and so it does where a turn is taken, if that isn't long and bytes are not limited
-pub turn_keeps : (turn : ℕ) (before now : Intake) (token : List ℕ) → IsConsistent before.primary.node
-    → next before.primary.node token ≡ Nothing_new → TakesTurn turn before now
-    → MayLoseTokens turn before ⊎ IsHeld now.primary.node token
-turn_keeps turn before now token consistent new takes = by before.primary.limits.history.bytes refl
-  where
-    by : (bytes : Option ℕ) → before.primary.limits.history.bytes ≡ bytes → MayLoseTokens turn before ⊎ IsHeld now.primary.node token
-    by (Some most) e = inl (inr (ap is_some e))
-    by None e =
-        let (k, last, is) = newest before.primary.node token consistent new in
-        let many : length (take turn before.batches) ≡ min turn (length before.batches) = length-take turn before.batches in
-        elim (cases_lt before.primary.limits.history.commits (length (take turn before.batches))) [
-          | inl long ↦ inl (inl (omega arith, omega arith))
-          | inr few ↦ (let (p, at, here) = turn_holds before.primary (take turn before.batches) now.primary token k takes.accepted last is few e in inr (placed now.primary.node token p (omega arith) here))
-        ]
+-- the batches of a turn are more than are kept, or have more bytes
+abbrev HasTooMuch : ℕ → Intake → Type 0
+HasTooMuch turn before =
+    (before.primary.limits.history.commits < length (take turn before.batches))
+    ⊎ (are_heavy_batches before.primary.limits.history.bytes (take turn before.batches) ≡ true)
 
--- a turn that is long is so for what waited at the start
+-- and so it does where a turn is taken, if all of that is kept
+turn_keeps : (turn : ℕ) (before now : Intake) (token : List ℕ) → IsConsistent before.primary.node
+    → next before.primary.node token ≡ Nothing_new → TakesTurn turn before now
+    → HasTooMuch turn before ⊎ IsHeld now.primary.node token
+turn_keeps turn before now token consistent new takes =
+    elim (cases_lt before.primary.limits.history.commits (length (take turn before.batches))) [
+      | inl long ↦ inl (inl long)
+      | inr few ↦ by few (are_heavy_batches before.primary.limits.history.bytes (take turn before.batches)) refl
+    ]
+  where
+    by : length (take turn before.batches) ≤ before.primary.limits.history.commits → (heavy : Bool)
+        → are_heavy_batches before.primary.limits.history.bytes (take turn before.batches) ≡ heavy
+        → HasTooMuch turn before ⊎ IsHeld now.primary.node token
+    by few true heavy = inl (inr heavy)
+    by few false light =
+        let (k, last, is) = newest before.primary.node token consistent new in
+        let ((p, at, here), keeps) = turn_holds before.primary (take turn before.batches) now.primary token k takes.accepted last is few light in
+        inr (placed now.primary.node token p (omega arith) here)
+
+-- ---- the turns so far
+
+-- so many turns were taken since the start
+pub record IsBehindTurns (turn : ℕ) (start before : Intake) : Type 0 where
+  pub turns : ℕ
+  pub left : before.batches ≡ left_behind turn turns start.batches
+
+left_fewer : (turn turns : ℕ) (batches : List (List Change)) → length (left_behind turn turns batches) ≤ length batches
+left_fewer turn zero batches = omega arith
+left_fewer turn (suc turns) batches =
+    let earlier = left_fewer turn turns batches in
+    let dropped = length-drop turn (left_behind turn turns batches) in
+    omega arith
+
+pub one_turn_more : (turn : ℕ) (start before now : Intake) → IsBehindTurns turn start before → TakesTurn turn before now → IsBehindTurns turn start now
+one_turn_more turn start before now behind takes =
+    record { turns = suc behind.turns; left = takes.left ∙ ap (drop turn) behind.left }
+
+-- a turn that has too much has it at its place since the start
 long_since : (turn : ℕ) (start before : Intake) → before.primary.limits ≡ start.primary.limits
-    → length before.batches ≤ length start.batches → MayLoseTokens turn before → MayLoseTokens turn start
-long_since turn start before limits fewer (inl (turn_long, all_long)) =
+    → IsBehindTurns turn start before → HasTooMuch turn before → MayLoseTokens turn start
+long_since turn start before limits behind (inl long) =
     let same : before.primary.limits.history.commits ≡ start.primary.limits.history.commits = ap (λ l. l.history.commits) limits in
+    let many : length (take turn before.batches) ≡ min turn (length before.batches) = length-take turn before.batches in
+    let fewer = left_fewer turn behind.turns start.batches in
+    let left : length before.batches ≡ length (left_behind turn behind.turns start.batches) = ap length behind.left in
     inl (omega arith, omega arith)
-long_since turn start before limits fewer (inr some) = inr (sym (ap (λ l. is_some l.history.bytes) limits) ∙ some)
+long_since turn start before limits behind (inr heavy) =
+    inr (
+      behind.turns,
+      ap (λ l. are_heavy_batches l.history.bytes (take turn (left_behind turn behind.turns start.batches))) (sym limits)
+          ∙ ap (λ l. are_heavy_batches before.primary.limits.history.bytes (take turn l)) (sym behind.left) ∙ heavy,
+    )
 
 -- what stays true of the session's token from one turn to the next
 pub held_on : (turn : ℕ) (start before now : Intake) (token to : List ℕ) (sent : List Commit)
-    → before.primary.limits ≡ start.primary.limits → length before.batches ≤ length start.batches
+    → before.primary.limits ≡ start.primary.limits → IsBehindTurns turn start before
     → IsConsistent before.primary.node → Sent before.primary.node token sent to
     → next before.primary.node to ≡ Nothing_new → TakesTurn turn before now
     → MayLoseTokens turn start ⊎ IsHeld before.primary.node token
     → MayLoseTokens turn start ⊎ IsHeld now.primary.node to
-held_on turn start before now token to sent limits fewer consistent run new takes (inl long) = inl long
-held_on turn start before now token to sent limits fewer consistent run new takes (inr held) =
+held_on turn start before now token to sent limits behind consistent run new takes (inl long) = inl long
+held_on turn start before now token to sent limits behind consistent run new takes (inr held) =
     elim (turn_keeps turn before now to consistent new takes) [
-      | inl long ↦ inl (long_since turn start before limits fewer long)
+      | inl long ↦ inl (long_since turn start before limits behind long)
       | inr kept ↦ inr kept
     ]
 
--- only a long turn loses the token, or a limit in bytes
+-- only a turn that has too much loses the token
 pub lost_late : (turn : ℕ) (start before : Intake) (token to : List ℕ) (sent : List Commit)
     → IsConsistent before.primary.node → Sent before.primary.node token sent to
     → next before.primary.node to ≡ Lost → MayLoseTokens turn start ⊎ IsHeld before.primary.node token
@@ -178,10 +317,6 @@ lost_late turn start before token to sent consistent run e (inl long) = long
 lost_late turn start before token to sent consistent run e (inr held) =
     let (k, place) = sent_held before.primary.node token to sent consistent run held in
     absurd (never_lost before.primary.node to k consistent place e)
-
--- fewer batches remain
-pub fewer_left : (turn : ℕ) (before now : Intake) → TakesTurn turn before now → length now.batches ≡ length before.batches - turn
-fewer_left turn before now takes = ap length takes.left ∙ length-drop turn before.batches
 
 -- ---- what was sent
 

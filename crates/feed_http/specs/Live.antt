@@ -1,8 +1,10 @@
 -- What a primary that takes batches sends and writes on one connection.
-use Rattle.std.specs.Prelude.{◌≡◌, ◌≢◌, ◌⊎◌, ◌<◌, ◌≤◌, ℕ, Bool, true, false, IsSome, List, [], ◌∷◌, ◌++◌, length, map, take, drop, Option, Some, None, Result, Ok, Err, Vec}
+use Rattle.std.specs.Prelude.{◌≡◌, ◌≢◌, ◌⊎◌, ◌+◌, ◌<◌, ◌≤◌, ℕ, zero, suc, Bool, true, false, ◌&&◌, nat_lt, List, [], ◌∷◌, ◌++◌, length, map, take, drop, Option, Some, None, Result, Ok, Err, Vec}
 use Rattle.std.specs.Io.KnownBytes.{Appends, Consumes, IsAtEnd}
 use Rattle.feed_settings.specs.declared.framing.Framing.{Framing}
 use Rattle.feed_changes.specs.declared.change.Change.{Change}
+use Rattle.feed_tables.specs.Amounts.{changes_bytes}
+use Rattle.feed_node.specs.Bounds.{passes}
 use Rattle.feed_node.specs.declared.commit.Commit.{Commit}
 use Rattle.feed_node.specs.declared.primary.CommitFault.{CommitFault}
 use Rattle.feed_node.specs.Log.{PrimaryState, commits, commit_fault, RefusesBatch, last_count}
@@ -58,9 +60,32 @@ IsLongTurn turn start =
     (start.primary.limits.history.commits < turn)
     × (start.primary.limits.history.commits < length start.batches)
 
--- a turn is long, or what the primary keeps is limited in bytes, too
+-- how many bytes the objects have that these batches put in
+abbrev pub batches_bytes : List (List Change) → ℕ
+batches_bytes [] = 0
+batches_bytes (batch ∷ batches) = changes_bytes batch + batches_bytes batches
+
+-- these are more batches than one, and have more bytes than a limit, where there is one: the newest
+-- commit is kept, whatever it has
+abbrev pub are_heavy_batches : Option ℕ → List (List Change) → Bool
+are_heavy_batches limit batches =
+    nat_lt 1 (length batches) && passes limit (batches_bytes batches)
+
+-- the batches that are left behind so many turns
+abbrev pub left_behind : ℕ → ℕ → List (List Change) → List (List Change)
+left_behind turn zero batches = batches
+left_behind turn (suc turns) batches = drop turn (left_behind turn turns batches)
+
+-- the turn behind so many others has more bytes in its batches than the primary keeps
+abbrev pub HasHeavyTurn : ℕ → Intake → Type 0
+HasHeavyTurn turn start =
+    (turns : ℕ)
+    × (are_heavy_batches start.primary.limits.history.bytes
+    (take turn (left_behind turn turns start.batches)) ≡ true)
+
+-- some turn has more batches than the primary keeps, or more bytes in them
 abbrev pub MayLoseTokens : ℕ → Intake → Type 0
-MayLoseTokens turn start = IsLongTurn turn start ⊎ IsSome start.primary.limits.history.bytes
+MayLoseTokens turn start = IsLongTurn turn start ⊎ HasHeavyTurn turn start
 
 -- A long turn loses the token of a session: a primary has a token for each count that it can reach.
 abbrev pub LosesItsToken : ℕ → Intake → Bool → Type 0
@@ -163,8 +188,8 @@ pub record HasAnswer (contest : List ℕ) (node : NodeState) (framing : Framing)
   pub answers : AnswersTo head contest node framing back answer
 
 -- what came of the session's token and of the batches: after a 200 the token was lost where a turn
--- was long, and else only where what is kept is limited in bytes; where it was not lost, no batch
--- is left; without a 200 all of them are
+-- was long, and else only where some turn had more bytes than are kept; where it was not lost, no
+-- batch is left; without a 200 all of them are
 pub record TakesAll (turn : ℕ) (start : Intake) (served : Served) (now : Intake) : Type 0 where
   pub only_long : served.gone ≡ true → MayLoseTokens turn start
   pub each_long : served.status ≡ 200 → LosesItsToken turn start served.gone

@@ -70,8 +70,8 @@ WroteAll node answer wrote served =
 -- ---- what was written while batches were taken
 
 -- the frames of the commits that a session was sent, which opened at this token; so many, and
--- whether its token is then lost: where a turn is long, and else only where what is kept is limited
--- in bytes
+-- whether its token is then lost: where a turn is long, and else only where some turn has more bytes
+-- than are kept
 pub record WroteTurns (turn : ℕ) (start : Intake) (opened : List ℕ) (framing : Framing)
     (wrote : Wrote) (now : Intake) (token : List ℕ) (count : ℕ) (gone : Bool) : Type 0 where
   pub sent : List Commit

@@ -131,10 +131,11 @@ fn send_live_answer<W: FeedWrite>(
 /// Serves a connection as [`serve_node`](crate::serve_node) does, from a primary that takes
 /// batches meanwhile: each time that the session is up to date and `input` isn't empty, `turn`
 /// batches from its start, or all that remain, are committed, one after another, and sending goes
-/// on. Without a 200 none is taken. Exactly where a turn has more batches than the primary keeps
-/// commits, and so many wait, the session's token is lost: its frames aren't sent, and the body
-/// ends without a line feed. A refused batch is taken from `input` and ends the call. What was
-/// written, what is published and what is left of `input` always belong together.
+/// on. Without a 200 none is taken. Where a turn has more batches than the primary keeps commits,
+/// and so many wait, the session's token is lost: its frames aren't sent, and the body ends without
+/// a line feed. Else it is lost only where some turn has two batches or more, whose objects have
+/// more bytes together than the primary keeps. A refused batch is taken from `input` and ends the
+/// call. What was written, what is published and what is left of `input` always belong together.
 pub fn serve_live<R: FeedRead, W: FeedWrite>(
     alloc: Global,
     reader: &mut R,

@@ -4,13 +4,13 @@ use Rattle.std.proofs.lemmas.Result.{err_from_is_err_and}
 use Rattle.feed_http.specs.Live.{intake_of, none_sent, turn_taken}
 use Rattle.feed_http.specs.Sending.{Sent, WroteCommits}
 use Rattle.feed_http.specs.Serving.{commit_frames}
-use Rattle.feed_http.proofs.LiveLemmas.{cut_short, sent_on, frames_on, all_lost, all_new, lost_late, held_on, accepts_limits, fewer_left, none_left}
+use Rattle.feed_http.proofs.LiveLemmas.{cut_short, sent_on, frames_on, all_lost, all_new, lost_late, held_on, accepts_limits, one_turn_more, none_left}
 use Rattle.feed_http.proofs.LostLemmas.{never_kept, turn_loses}
 use Rattle.feed_http.proofs.WritingLemmas.{passed}
 use Rattle.feed_http.proofs.live.send_live.Goals as goal
 
 pub turns-init : goal.turns-init
-turns-init g c = record { run = ([], none_sent, refl, Appends-nil _); quiet = refl; held = λ h. inr h; lost = λ few long. inl refl; limits = refl; fewer = omega arith }
+turns-init g c = record { run = ([], none_sent, refl, Appends-nil _); quiet = refl; held = λ h. inr h; lost = λ few long. inl refl; limits = refl; behind = record { turns = 0; left = refl } }
 
 pub returns-in_err-sent : goal.returns-in_err-sent
 returns-in_err-sent g c =
@@ -84,7 +84,6 @@ turns-preserved g c =
     let goes_on = subst (λ n. Sent n c.turns.session more c.send_commits.new.session) node_is sends in
     let new = all_new c.node.result.now.shown c.turns.primary.node c.send_commits.new.session c.in_ok-sent.gone node_is c.if-gone.false all in
     let takes = c.in_ok-take_turn.ensures.ok in
-    let left = fewer_left c.args.terms.turn before now takes in
     record {
       run = (
         sent ++ more,
@@ -94,13 +93,13 @@ turns-preserved g c =
         frames_on c.args.terms.framing sent more _ _ _ wrote appended,
       );
       quiet = quiet ∙ c.turns.invariant.quiet;
-      held = λ h. held_on c.args.terms.turn start before now c.turns.session c.send_commits.new.session more c.turns.invariant.limits c.turns.invariant.fewer c.node.ensures.consistent goes_on new takes (c.turns.invariant.held h);
+      held = λ h. held_on c.args.terms.turn start before now c.turns.session c.send_commits.new.session more c.turns.invariant.limits c.turns.invariant.behind c.node.ensures.consistent goes_on new takes (c.turns.invariant.held h);
       lost = λ few long. inr (elim (c.turns.invariant.lost few long) [
         | inl same ↦ turn_loses c.args.terms.turn start before now c.send_commits.new.session same few c.node.ensures.primary new takes long
         | inr past ↦ absurd (never_kept start before c.turns.session c.send_commits.new.session more c.turns.invariant.limits c.node.ensures.primary c.node.ensures.consistent past goes_on new)
       ]);
       limits = accepts_limits c.turns.primary _ c.take_turn.new.primary takes.accepted ∙ c.turns.invariant.limits;
-      fewer = omega (arith, left, c.turns.invariant.fewer);
+      behind = one_turn_more c.args.terms.turn start before now c.turns.invariant.behind takes;
     }
 
 pub returns-in_err-take_turn : goal.returns-in_err-take_turn

@@ -8,6 +8,7 @@ use Rattle.feed_http.specs.Device.{counted}
 use Rattle.feed_http.specs.Serving.{commit_frames}
 use Rattle.feed_http.specs.Live.{intake_of, HasSent, IsLongTurn, MayLoseTokens}
 use Rattle.feed_http.specs.Taking.{IsHeld}
+use Rattle.feed_http.proofs.LiveLemmas.{IsBehindTurns}
 use Rattle.feed_http.proofs.LostLemmas.{IsPast}
 use Rattle.feed_http.proofs.live.send_live.Given as goal
 
@@ -23,7 +24,7 @@ invariant-turns g l =
       held : IsHeld start.primary.node l.initial.session → MayLoseTokens l.terms.turn start ⊎ IsHeld now.primary.node l.session;
       lost : start.primary.count ≤ last_count → IsLongTurn l.terms.turn start → (now ≡ start) ⊎ IsPast start now.primary l.session;
       limits : now.primary.limits ≡ start.primary.limits;
-      fewer : length now.batches ≤ length start.batches;
+      behind : IsBehindTurns l.terms.turn start now;
     }
 
 abbrev pub decreases-turns : goal.decreases-turns
