@@ -148,10 +148,10 @@ stands_at_last published token last is named =
 
 -- a turn that is long loses its token
 pub turn_loses : (turn : ℕ) (start before now : Intake) (to : List ℕ) → before ≡ start
-    → start.primary.count ≤ last_count → IsPrimary before.primary
+    → IsPrimary before.primary
     → next before.primary.node to ≡ Nothing_new → TakesTurn turn before now → IsLongTurn turn start
     → IsPast start now.primary to
-turn_loses turn start before now to same few is new takes (turn_long, all_long) =
+turn_loses turn start before now to same is new takes (turn_long, all_long) =
     let count : before.primary.count ≡ start.primary.count = ap (λ i. i.primary.count) same in
     let kept : before.primary.limits.history.commits ≡ start.primary.limits.history.commits = ap (λ i. i.primary.limits.history.commits) same in
     let waiting : length before.batches ≡ length start.batches = ap (λ i. length i.batches) same in
@@ -161,5 +161,5 @@ turn_loses turn start before now to same few is new takes (turn_long, all_long) 
       stands = stands_at_last (published_token before.primary.node) to (token_after before.primary.count)
           (new_is_published before.primary.node to new) is.named ∙ ap token_after count;
       many = omega arith;
-      counted = accepts_counted before.primary (take turn before.batches) now.primary takes.accepted (omega arith);
+      counted = accepts_counted before.primary (take turn before.batches) now.primary takes.accepted is.counted;
     }

@@ -7,7 +7,7 @@ use Rattle.feed_tables.specs.Amounts.{changes_bytes}
 use Rattle.feed_node.specs.Bounds.{passes}
 use Rattle.feed_node.specs.declared.commit.Commit.{Commit}
 use Rattle.feed_node.specs.declared.primary.CommitFault.{CommitFault}
-use Rattle.feed_node.specs.Log.{PrimaryState, commits, commit_fault, RefusesBatch, last_count}
+use Rattle.feed_node.specs.Log.{PrimaryState, commits, commit_fault, RefusesBatch}
 use Rattle.feed_node.specs.States.{NodeState}
 use Rattle.feed_answer.specs.Answered.{AnswerParts, AnswersTo}
 use Rattle.feed_wire.specs.Framed.{frame_end}
@@ -87,10 +87,9 @@ HasHeavyTurn turn start =
 abbrev pub MayLoseTokens : ℕ → Intake → Type 0
 MayLoseTokens turn start = IsLongTurn turn start ⊎ HasHeavyTurn turn start
 
--- A long turn loses the token of a session: a primary has a token for each count that it can reach.
+-- a long turn loses the token of a session
 abbrev pub LosesItsToken : ℕ → Intake → Bool → Type 0
-LosesItsToken turn start gone =
-    start.primary.count ≤ last_count → IsLongTurn turn start → gone ≡ true
+LosesItsToken turn start gone = IsLongTurn turn start → gone ≡ true
 
 -- ---- what is sent
 

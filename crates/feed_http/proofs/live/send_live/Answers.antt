@@ -10,7 +10,7 @@ use Rattle.feed_http.proofs.WritingLemmas.{passed}
 use Rattle.feed_http.proofs.live.send_live.Goals as goal
 
 pub turns-init : goal.turns-init
-turns-init g c = record { run = ([], none_sent, refl, Appends-nil _); quiet = refl; held = λ h. inr h; lost = λ few long. inl refl; limits = refl; behind = record { turns = 0; left = refl } }
+turns-init g c = record { run = ([], none_sent, refl, Appends-nil _); quiet = refl; held = λ h. inr h; lost = λ long. inl refl; limits = refl; behind = record { turns = 0; left = refl } }
 
 pub returns-in_err-sent : goal.returns-in_err-sent
 returns-in_err-sent g c =
@@ -39,7 +39,7 @@ returns-then-gone g c =
         count_is = omega (arith, length-append sent more, count, many, c.saturating_add-count.ensures);
         frames = frames_on c.args.terms.framing sent more _ _ _ wrote appended;
         only_long = λ is. lost_late c.args.terms.turn start now c.turns.session c.send_commits.new.session more c.node.ensures.consistent goes_on over (c.turns.invariant.held c.requires.held);
-        each_long = λ few long. refl;
+        each_long = λ long. refl;
       },
       quiet ∙ c.turns.invariant.quiet,
     )
@@ -64,7 +64,7 @@ returns-then-is_empty g c =
         count_is = omega (arith, length-append sent more, count, many, c.saturating_add-count.ensures);
         frames = frames_on c.args.terms.framing sent more _ _ _ wrote appended;
         only_long = λ is. absurd (cc);
-        each_long = λ few long. elim (c.turns.invariant.lost few long) [
+        each_long = λ long. elim (c.turns.invariant.lost long) [
           | inl same ↦ (let left = ap (λ i. length i.batches) (sym same) in let gone : length before.batches ≡ 0 = ap length nothing_left in absurd (omega (arith, long.1)))
           | inr past ↦ absurd (never_kept start before c.turns.session c.send_commits.new.session more c.turns.invariant.limits c.node.ensures.primary c.node.ensures.consistent past goes_on new)
         ];
@@ -94,8 +94,8 @@ turns-preserved g c =
       );
       quiet = quiet ∙ c.turns.invariant.quiet;
       held = λ h. held_on c.args.terms.turn start before now c.turns.session c.send_commits.new.session more c.turns.invariant.limits c.turns.invariant.behind c.node.ensures.consistent goes_on new takes (c.turns.invariant.held h);
-      lost = λ few long. inr (elim (c.turns.invariant.lost few long) [
-        | inl same ↦ turn_loses c.args.terms.turn start before now c.send_commits.new.session same few c.node.ensures.primary new takes long
+      lost = λ long. inr (elim (c.turns.invariant.lost long) [
+        | inl same ↦ turn_loses c.args.terms.turn start before now c.send_commits.new.session same c.node.ensures.primary new takes long
         | inr past ↦ absurd (never_kept start before c.turns.session c.send_commits.new.session more c.turns.invariant.limits c.node.ensures.primary c.node.ensures.consistent past goes_on new)
       ]);
       limits = accepts_limits c.turns.primary _ c.take_turn.new.primary takes.accepted ∙ c.turns.invariant.limits;

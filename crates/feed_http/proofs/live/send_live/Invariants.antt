@@ -3,7 +3,6 @@ use Rattle.std.proofs.Common.{◌≡◌, ◌≤◌, List, length}
 use Rattle.std.specs.Prelude.{◌⊎◌}
 use Rattle.std.specs.Io.KnownBytes.{Appends}
 use Rattle.feed_node.specs.declared.commit.Commit.{Commit}
-use Rattle.feed_node.specs.Log.{last_count}
 use Rattle.feed_http.specs.Device.{counted}
 use Rattle.feed_http.specs.Serving.{commit_frames}
 use Rattle.feed_http.specs.Live.{intake_of, HasSent, IsLongTurn, MayLoseTokens}
@@ -22,7 +21,7 @@ invariant-turns g l =
           × Appends (writer.contents l.initial.writer) (writer.contents l.writer) (commit_frames l.terms.framing sent);
       quiet : writer.failures l.writer ≡ writer.failures l.initial.writer;
       held : IsHeld start.primary.node l.initial.session → MayLoseTokens l.terms.turn start ⊎ IsHeld now.primary.node l.session;
-      lost : start.primary.count ≤ last_count → IsLongTurn l.terms.turn start → (now ≡ start) ⊎ IsPast start now.primary l.session;
+      lost : IsLongTurn l.terms.turn start → (now ≡ start) ⊎ IsPast start now.primary l.session;
       limits : now.primary.limits ≡ start.primary.limits;
       behind : IsBehindTurns l.terms.turn start now;
     }
