@@ -5,8 +5,9 @@ import sys
 from functools import cache
 from hashlib import sha256
 
+from building import listed, lower
 from common import TOP
-from contracts import FUNCTION, QUOTED, contract_at, function_with, head_of, is_of_trait
+from contracts import FUNCTION, QUOTED, contract_at, function_at, function_with, head_of, is_of_trait
 
 # The set of the edits that tools/check doesn't try.
 FURTHER = "further"
@@ -81,10 +82,49 @@ def recorded(crate, edits):
     return f"edits: {len(edits)}, each refused on the sources with the sum {found.hexdigest()[:16]}\n"
 
 
-def without_comments(file):
-    """The lines of a file of sources that are no comments, and not empty."""
+def recorded_below(crate):
+    """What the second line of that file says of the crates below: what they state, which is their definitions and their
+    code without bodies of functions. A contract there may be what refuses an edit."""
+    return f"below: stated with the sum {sum_below(crate)}\n"
+
+
+@cache
+def sum_below(crate):
+    found = sha256()
+    for it in sorted(lower(crate, listed(TOP / "crates.txt"))):
+        found.update(stated_by(it))
+    return found.hexdigest()[:16]
+
+
+@cache
+def stated_by(crate):
+    """A sum of what a crate states."""
+    folder, found = TOP / "crates" / crate, sha256()
+    for file in sorted([*folder.glob("src/**/*.rt"), *folder.glob("specs/**/*.antt")]):
+        text = without_comments(file, without_bodies)
+        found.update(f"{crate}/{file.relative_to(folder)}\n{text}\n".encode())
+    return found.digest()
+
+
+def without_bodies(text):
+    """A Rattle text without the bodies of its functions."""
+    plain = QUOTED.sub(lambda found: re.sub(r"[^\n]", " ", found[0]), text)
+    bodies, end = [], 0
+    for it in FUNCTION.finditer(plain):
+        made = function_at(plain, it) if it.start() >= end else None
+        if made:
+            bodies.append(made.body)
+            end = made.body.stop
+    for body in reversed(bodies):
+        text = f"{text[: body.start]}{{}}{text[body.stop :]}"
+    return text
+
+
+def without_comments(file, first=lambda text: text):
+    """The lines of a file of sources that are no comments, and not empty; of a Rattle file after what comes first."""
     text = file.read_text()
     if file.suffix == ".rt":
+        text = first(text)
         text = QUOTED.sub(lambda found: "" if found[0].startswith("//") else found[0], text)
     lines = [line.rstrip() for line in text.split("\n")]
     return "\n".join(line for line in lines if line and not line.lstrip().startswith("--"))
