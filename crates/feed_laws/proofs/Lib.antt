@@ -6,3 +6,4 @@ pub mod FollowLemmas
 pub mod ConnectionLemmas
 pub mod FileBegins
 pub mod FileBreaks
+pub mod PrimaryLemmas

@@ -1,11 +1,15 @@
 -- THE PROMISE on one connection: what a mirror makes of what was written for its request, by a
 -- node, or by a primary that took batches meanwhile (CLICS Contest API 2023-06, event feed and
 -- reconnection; RFC 9112).
-use Rattle.std.specs.Prelude.{◌≡◌, ◌⊎◌, ℕ, ◌<◌, ◌^◌, false, List, [], length, Some}
-use Rattle.feed_settings.specs.Limits.{Limits}
+use Rattle.std.specs.Prelude.{◌≡◌, ◌⊎◌, ℕ, ◌<◌, ◌^◌, false, List, [], ◌∷◌, length, Option, Some, None}
+use Rattle.std.specs.List.{AllByRecursion}
+use Rattle.feed_settings.specs.Limits.{Limits, IsInRange}
 use Rattle.feed_settings.specs.declared.framing.Framing.{Framing}
+use Rattle.feed_changes.specs.declared.change.Change.{Change}
+use Rattle.feed_changes.specs.Changes.{IsChange}
 use Rattle.feed_node.specs.declared.commit.Commit.{Commit}
 use Rattle.feed_node.specs.declared.primary.CommitFault.{CommitFault}
+use Rattle.feed_node.specs.Log.{PrimaryState, new_primary, commits, commit_fault}
 use Rattle.feed_node.specs.Mirroring.{MirrorState}
 use Rattle.feed_node.specs.Serving.{commit_text}
 use Rattle.feed_node.specs.States.{NodeState, published_token}
@@ -16,7 +20,7 @@ use Rattle.feed_http.specs.declared.fault.Served.{Served}
 use Rattle.feed_http.specs.Live.{Intake, HasSent, SendsLive, WroteLive, WroteRefused}
 use Rattle.feed_http.specs.Serving.{Serves}
 use Rattle.feed_http.specs.Sessions.{Commit_after, next}
-use Rattle.feed_world.specs.Log.{Log, IsLog}
+use Rattle.feed_world.specs.Log.{Log, IsLog, numbered}
 use Rattle.feed_laws.specs.Follows.{HasAskedSo, FollowsInLog, ArrivesInLog}
 use Rattle.feed_laws.specs.Laws.{StandsInLog}
 
@@ -48,6 +52,37 @@ abbrev pub MeetsLog : Log → ℕ → Intake → List ℕ → Type 0
 MeetsLog log turn start opened =
     (sent : List Commit) (now : Intake) (token : List ℕ) → HasSent turn start opened sent now token
     → StandsInLog log now.primary.node
+
+-- ---- the log of a primary
+
+abbrev pub unless_refused : Option CommitFault → List Change → List (List Change)
+    → List (List Change)
+unless_refused None batch accepted = batch ∷ accepted
+unless_refused (Some fault) batch accepted = []
+
+-- those of these batches that a primary accepts, one after another, up to the first that it refuses
+abbrev pub accepted_by : PrimaryState → List (List Change) → List (List Change)
+accepted_by primary [] = []
+accepted_by primary (batch ∷ batches) =
+    unless_refused (commit_fault primary batch) batch
+    (accepted_by (commits primary batch) batches)
+
+-- the log of a primary that began with nothing, and is given these batches
+abbrev pub log_of_batches : Limits → List (List Change) → Log
+log_of_batches limits batches = numbered (accepted_by (new_primary limits) batches)
+
+-- That is a log, and each state of the primary that a session meets is in it: so what is supposed
+-- of a primary below holds of one that began with nothing.
+abbrev pub PrimariesMeetTheirLog : Type 0
+PrimariesMeetTheirLog =
+    (limits : Limits) (turn : ℕ) (batches : List (List Change)) (opened : List ℕ)
+    → IsInRange limits.history.commits limits.staged
+    → AllByRecursion (AllByRecursion IsChange) batches
+    → IsLog limits (log_of_batches limits batches)
+    × MeetsLog (log_of_batches limits batches) turn
+    (record { primary = new_primary limits; batches = batches }) opened
+
+-- ---- a primary that serves
 
 -- The same of a primary that took batches in turns, as `serve_live` does.
 abbrev pub PrimariesAreFollowed : Type 0
