@@ -14,7 +14,8 @@ pub enum Why {
     Refuses,
     /// It did not take the connection within ten seconds.
     Late,
-    /// It took the connection, and did not answer within twenty seconds.
+    /// It took the connection, and did not answer in time: within twenty seconds, or twice as long
+    /// each time that none did, up to two minutes.
     NoAnswer,
     /// The connection broke off.
     Broke,
@@ -33,13 +34,51 @@ impl fmt::Display for Why {
         match self {
             Why::Unknown => f.write_str("its name has no address"),
             Why::Refuses => f.write_str("can't connect"),
-            Why::Late => f.write_str("no connection after 10 s"),
-            Why::NoAnswer => f.write_str("no answer after 20 s"),
+            Why::Late => f.write_str("no connection in time"),
+            Why::NoAnswer => f.write_str("no answer in time"),
             Why::Broke => f.write_str("connection lost"),
             Why::Ended => f.write_str("end of the feed"),
             Why::Silent => f.write_str("silent"),
             Why::Fault(fault) => write!(f, "{fault}"),
             Why::Memory => f.write_str("out of memory"),
+        }
+    }
+}
+
+/// Why the first server isn't followed, where another one is.
+#[derive(Clone, Copy)]
+pub enum Lack {
+    /// The first one was left.
+    Left(Why),
+    /// It doesn't hold our token.
+    TokenRefused,
+    /// It had nothing new, and another one has.
+    Quiet,
+}
+
+impl Lack {
+    /// Whether both are of one kind.
+    pub fn is_like(&self, other: &Lack) -> bool {
+        match (self, other) {
+            (Lack::Left(one), Lack::Left(other)) => one == other,
+            (Lack::TokenRefused, Lack::TokenRefused) => true,
+            (Lack::Quiet, Lack::Quiet) => true,
+            _ => false,
+        }
+    }
+
+    /// Whether the first one was late, or silent.
+    pub fn is_late(&self) -> bool {
+        matches!(self, Lack::Left(Why::Late | Why::NoAnswer | Why::Silent))
+    }
+}
+
+impl fmt::Display for Lack {
+    fn fmt<W: fmt::Write>(&self, f: &mut fmt::Formatter<W>) -> fmt::Result {
+        match self {
+            Lack::Left(why) => write!(f, "{why}"),
+            Lack::TokenRefused => f.write_str("doesn't hold our token"),
+            Lack::Quiet => f.write_str("nothing new"),
         }
     }
 }
@@ -144,10 +183,29 @@ pub enum Report {
         server: usize,
         time: u64,
     },
+    /// A server is followed in place of the first one, since that is not, for this reason.
+    Instead {
+        server: usize,
+        why: Lack,
+    },
+    /// The first server is followed again, after so long.
+    Again {
+        server: usize,
+        time: u64,
+    },
     /// A server says that the feed is somewhere else.
     Moved {
         server: usize,
         location: Excerpt,
+    },
+    /// A server has nothing at the path that it was asked for, by this line.
+    NotFound {
+        server: usize,
+        line: Excerpt,
+    },
+    /// A server answers in TLS, which this relay does not speak.
+    Tls {
+        server: usize,
     },
     /// What a server sent can't be followed from this line on.
     Faulty {
@@ -156,6 +214,15 @@ pub enum Report {
     },
     /// A server doesn't hold the token that it was asked with.
     Refused {
+        server: usize,
+    },
+    /// The first server refused our newest token twice: its log is another one, and it is asked for
+    /// everything.
+    OtherLog {
+        server: usize,
+    },
+    /// What the first server has is behind what is shown: nothing of it is shown.
+    Behind {
         server: usize,
     },
     /// A server sends all that it has though it was asked for what comes after our token.
@@ -234,8 +301,11 @@ pub enum Report {
         bytes: u64,
         time: u64,
     },
-    /// Requests are answered 503, since no server was heard yet.
-    NotHeard,
+    /// Requests are answered 503, since no server was heard yet; or since what one sends has not
+    /// settled.
+    NotHeard {
+        is_settling: bool,
+    },
     /// The state file was begun again with a snapshot of so many bytes.
     Saved {
         bytes: u64,

@@ -3,8 +3,7 @@
 ghost use Rattle.std.specs.Prelude.{◌≡◌};
 
 use crate::reasons::{FollowFailure, Following, KINDS, REASONS, Reason};
-use feed_device::{Desk, Report, Why};
-use memchr::memmem;
+use feed_device::{Desk, Lack, Report, Why};
 
 /// After so many milliseconds in which changes waited for a token, there may be none.
 pub const LONG_WAIT: u64 = 10_000;
@@ -16,6 +15,11 @@ pub struct FeedFigures {
     pub following: Following,
     /// The number of the server that is asked, or was asked last.
     pub server: usize,
+    /// Its number among the servers that were named, from 0 for the first one; one with several
+    /// addresses counts once, if it is the first.
+    pub index: u64,
+    /// Why another server is followed, or asked, in place of the first one, and since when.
+    pub lack: Option<(Lack, u64)>,
     /// When `following` became what it is.
     pub changed: u64,
     /// When the last byte of a feed came.
@@ -51,6 +55,8 @@ impl FeedFigures {
         FeedFigures {
             following,
             server: 0,
+            index: 0,
+            lack: None,
             changed: now,
             heard: now,
             failures: 0,
@@ -76,6 +82,15 @@ impl FeedFigures {
         }
     }
 
+    /// The same, with the number of the server, and why the first one isn't followed.
+    pub fn with_lack(self, index: u64, lack: Option<(Lack, u64)>) -> FeedFigures {
+        FeedFigures {
+            index,
+            lack,
+            ..self
+        }
+    }
+
     /// So many bytes came: of a feed, or before it is known whether they are.
     pub fn hear(&mut self, bytes: usize, is_feed: bool, now: u64) {
         if is_feed {
@@ -91,17 +106,12 @@ impl FeedFigures {
         self.waiting = 0;
     }
 
-    /// A line of a body came, or a part of one. A change begins with a brace, and waits for a token
-    /// unless it has one. One that was sent before has one, too, and publishes nothing.
-    pub fn stage(&mut self, line: &[u8], now: u64) {
-        if has_token(line) {
-            self.waiting = 0;
-        } else if line.first() == Some(&b'{') {
-            if self.waiting == 0 {
-                self.waiting_since = now;
-            }
-            self.waiting = self.waiting.saturating_add(1);
+    /// So many changes wait for a token.
+    pub fn stage(&mut self, waiting: u64, now: u64) {
+        if waiting > 0 && self.waiting == 0 {
+            self.waiting_since = now;
         }
+        self.waiting = waiting;
     }
 
     /// Things stand like this with the server, since now where they stood otherwise.
@@ -135,6 +145,12 @@ impl FeedFigures {
     /// The server is lost.
     pub fn lose(&mut self, why: Why, now: u64) {
         self.failures = self.failures.saturating_add(1);
+        self.fail(FollowFailure::Left(why), now);
+        self.change(Following::Away, now);
+    }
+
+    /// The feed of the server ended, and that did not fail: it is asked again.
+    pub fn end(&mut self, why: Why, now: u64) {
         self.fail(FollowFailure::Left(why), now);
         self.change(Following::Away, now);
     }
@@ -180,9 +196,4 @@ impl FeedFigures {
         }
         self.waiting = 0;
     }
-}
-
-/// Whether a line seems to have a token. That of a part of a line may be in another one.
-fn has_token(line: &[u8]) -> bool {
-    memmem::find(line, b"\"token\"").is_some()
 }

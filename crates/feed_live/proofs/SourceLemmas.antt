@@ -1,6 +1,6 @@
 -- How the steps of a source stay at places of the log.
-use Rattle.std.proofs.Common.{◌≡◌, ◌≤◌, sym, ◌∙◌, subst, ℕ, zero, suc, ◌-◌, arith, List, [], ◌∷◌, length, Option}
-use Rattle.std.specs.Prelude.{Bool, false, true, None, Some, IfSome, MatchOption, IsSome, Contains, slice_get, Result, Ok, Err, option_map}
+use Rattle.std.proofs.Common.{◌≡◌, ◌≤◌, refl, ap, sym, ◌∙◌, subst, ℕ, zero, suc, ◌-◌, arith, List, [], ◌∷◌, length, Option}
+use Rattle.std.specs.Prelude.{Bool, false, true, ◌&&◌, ◌||◌, if◌then◌else◌, is_some, None, Some, IfSome, MatchOption, IsSome, Contains, slice_get, Result, Ok, Err, option_map}
 use Rattle.std.specs.Result.{is_err}
 use Rattle.feed_settings.specs.Limits.{Limits}
 use Rattle.feed_node.specs.Publishing.{Published}
@@ -15,7 +15,9 @@ use Rattle.feed_live.specs.declared.source.Reach.TheVariants.{Connects, Asks}
 use Rattle.feed_live.specs.declared.source.Source.{Source}
 use Rattle.feed_live.specs.Relaying.{pursuit, MayFollow, WasLeft, StillFollows, within_turn}
 use Rattle.feed_live.specs.Upstream.{Servers, AreKnownHonest}
-use Rattle.feed_live.specs.Leaving.{IsBy}
+use Rattle.feed_device.specs.declared.report.Why.{Why}
+use Rattle.feed_hub.specs.Upstream.{later}
+use Rattle.feed_live.specs.Leaving.{IsBy, LooksInTime, heard_time, is_end, late_time, look_at, newest_time, quiet_at}
 use Rattle.feed_live.proofs.RelayLemmas.{with_left, opens_follows}
 
 -- the server was left
@@ -76,6 +78,32 @@ newest_held node token consistent is = by node.published consistent is
         → Contains node.held token
     by None consistent is = absurd (cc)
     by (Some p) holds is = among_at node.held (length node.held - 1) token (holds.newest ∙ is)
+
+heard_if_any : (b : Bool) (since : Option ℕ) → since ≡ None → is_some (if b then None else option_map (λ since. later since 1000) since) ≡ false
+heard_if_any true since none = refl
+heard_if_any false since none = ap (λ at. is_some (option_map (λ since. later since 1000) at)) none
+
+as_before : (heard ends : Bool) → (heard || ends && false) ≡ heard
+as_before true ends = refl
+as_before false true = refl
+as_before false false = refl
+
+-- one whose head has not come is not heard
+pub never_heard : (source : Source) (why : Why) → source.body_since ≡ None → (source.is_heard || is_end why && is_some (heard_time source)) ≡ source.is_heard
+never_heard source why none =
+    let quiet : is_some (heard_time source) ≡ false = heard_if_any (source.is_heard || source.is_fresh || is_some source.rechecking.again) source.body_since none in
+    ap (λ q. source.is_heard || is_end why && q) quiet ∙ as_before source.is_heard (is_end why)
+
+-- a relay that looks sooner looks in time
+pub looks_sooner : {source : Source} {sooner due : ℕ} → sooner ≤ due → LooksInTime source due → LooksInTime source sooner
+looks_sooner {source} by looks =
+    record {
+      late = by_sooner (late_time source) by looks.late;
+      first = by_sooner (look_at source source.reach) by looks.first;
+      quiet = by_sooner (quiet_at source source.reach) by looks.quiet;
+      heard = by_sooner (heard_time source) by looks.heard;
+      newest = by_sooner (newest_time source) by looks.newest;
+    }
 
 pub some_none : (x : List ℕ) → Some x ≡ None → ⊥
 some_none x e = cc

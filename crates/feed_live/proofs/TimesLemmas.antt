@@ -1,6 +1,6 @@
 -- How the times that a relay keeps of its server stay.
 use Rattle.std.proofs.Common.{◌≡◌, ◌⊎◌, inl, inr, refl, sym, ap, ◌∙◌, subst, ℕ, ◌+◌, ◌≤◌, arith, List, drop, Option, Some, None}
-use Rattle.std.specs.Prelude.{Bool, true, false, ◌&&◌, ◌||◌, not, option_map, if◌then◌else◌, is_none, nat_le, nat_eq, length, max}
+use Rattle.std.specs.Prelude.{Bool, true, false, ◌&&◌, ◌||◌, not, option_map, if◌then◌else◌, is_none, nat_le, nat_lt, nat_eq, length, max}
 use Rattle.feed_device.specs.Calls.{LinkCalls}
 use Rattle.feed_hub.specs.Upstream.{later, has_another, asked_next}
 use Rattle.feed_live.specs.declared.source.Source.{Source}
@@ -9,7 +9,9 @@ use Rattle.feed_settings.specs.declared.place.Place.{Place}
 use Rattle.feed_live.specs.declared.source.Reach.{Reach}
 use Rattle.feed_live.specs.declared.source.Reach.TheVariants.{Away, Connects, Asks, Reads}
 use Rattle.feed_live.specs.Calling.{HeedsLink}
-use Rattle.feed_live.specs.Leaving.{is_past, quiet_at, quiet_since, quiet_time, may_be_left, why_left, newest_time, IsToMove, IsToStay}
+use Rattle.feed_live.specs.Leaving.{is_past, is_looked_at, is_only_other, look_at, quiet_at, quiet_since, quiet_time, may_be_left, why_left, newest_time, IsToMove, IsToStay}
+use Rattle.feed_live.specs.Leading.{is_instead}
+use Rattle.feed_live.specs.declared.source.leading.Leading.{Leading}
 use Rattle.feed_live.specs.Relaying.{SameSource, SameWaiting, RestsAway, settings_of}
 use Rattle.feed_live.specs.Times.{AreBy, times_of, KeepsTimes, HeadStays, HeedsTime, SameTimes}
 use Rattle.feed_live.proofs.TurnLemmas.{why_same}
@@ -167,7 +169,16 @@ more_is_new source (Connects since) now more = refl
 more_is_new source (Asks count) now more = refl
 more_is_new source Reads now more =
     let not_left : may_be_left source ≡ false = none_of (is_none source.coming) (nat_le 2 (length source.places.items)) (not source.has_more) (nat_eq (length source.rest.items) 0) (not (nat_eq source.returning.after 0)) (ap not more) in
-    ap (λ may. is_past (if may then option_map (quiet_since source) source.body_since else None) now) not_left
+    ap (λ may. is_past (if may && not (is_only_other source) then option_map (quiet_since source) source.body_since else None) now) not_left
+
+-- and the first one isn't looked at
+more_is_no_look : (source : Source) (reach : Reach) (now : ℕ) → source.has_more ≡ true → is_past (look_at source reach) now ≡ false
+more_is_no_look source Away now more = refl
+more_is_no_look source (Connects since) now more = refl
+more_is_no_look source (Asks count) now more = refl
+more_is_no_look source Reads now more =
+    let not_left : may_be_left source ≡ false = none_of (is_none source.coming) (nat_le 2 (length source.places.items)) (not source.has_more) (nat_eq (length source.rest.items) 0) (not (nat_eq source.returning.after 0)) (ap not more) in
+    ap (λ may. is_past (if may && is_looked_at source then option_map (λ since. max source.leading.look_at (later since 2000)) source.body_since else None) now) not_left
 
 newest_same : {a b : Source} → SameWaiting a b → b.is_heard ≡ a.is_heard → newest_time b ≡ newest_time a
 newest_same {a} {b} waiting heard =
@@ -177,46 +188,90 @@ newest_same {a} {b} waiting heard =
 
 -- ---- none came
 
-quiet_by : Bool → List Place → Bool → List ℕ → Returning → ℕ → Option ℕ → Reach → Option ℕ
-quiet_by fresh places more rest returning place since Reads =
-    if fresh && nat_le 2 (length places) && not more && nat_eq (length rest) 0 && not (nat_eq returning.after 0)
+-- a server may be left, and the first one is looked at
+may_by : Bool → List Place → Bool → List ℕ → Returning → Bool
+may_by fresh places more rest returning = fresh && nat_le 2 (length places) && not more && nat_eq (length rest) 0 && not (nat_eq returning.after 0)
+
+looked_by : Leading → ℕ → Bool → Bool
+looked_by leading place always = is_instead leading place && not always
+
+quiet_by : Bool → List Place → Returning → Leading → Bool → ℕ → Option ℕ → Reach → Option ℕ
+quiet_by may places returning leading always place since Reads =
+    if may && not (looked_by leading place always && nat_lt leading.others 2)
     then option_map (λ from. later (max from returning.published) (quiet_time returning (nat_eq place 0) (nat_le (length places) returning.left_quiet))) since
     else None
-quiet_by fresh places more rest returning place since Away = None
-quiet_by fresh places more rest returning place since (Connects from) = None
-quiet_by fresh places more rest returning place since (Asks count) = None
+quiet_by may places returning leading always place since Away = None
+quiet_by may places returning leading always place since (Connects from) = None
+quiet_by may places returning leading always place since (Asks count) = None
 
-quiet_is : (source : Source) (reach : Reach) → quiet_at source reach ≡ quiet_by (is_none source.coming) source.places.items source.has_more source.rest.items source.returning source.upstream.place source.body_since reach
-unfolding quiet_by
+look_by : Bool → Leading → Bool → ℕ → Option ℕ → Reach → Option ℕ
+look_by may leading always place since Reads =
+    if may && looked_by leading place always then option_map (λ from. max leading.look_at (later from 2000)) since else None
+look_by may leading always place since Away = None
+look_by may leading always place since (Connects from) = None
+look_by may leading always place since (Asks count) = None
+
+may_same : {a b : Source} → SameSource a b → SameWaiting a b → b.has_more ≡ a.has_more → may_be_left b ≡ may_be_left a
+unfolding may_by
+may_same {a} {b} same waiting more =
+    ap (λ c. may_by (is_none c) b.places.items b.has_more b.rest.items b.returning) same.coming
+    ∙ ap (λ s. may_by (is_none a.coming) s.places b.has_more b.rest.items b.returning) same.servers
+    ∙ ap (λ m. may_by (is_none a.coming) a.places.items m b.rest.items b.returning) more
+    ∙ ap (λ r. may_by (is_none a.coming) a.places.items a.has_more r b.returning) same.rest
+    ∙ ap (λ r. may_by (is_none a.coming) a.places.items a.has_more a.rest.items r) waiting.returning
+
+quiet_is : (source : Source) (reach : Reach) → quiet_at source reach ≡ quiet_by (may_be_left source) source.places.items source.returning source.leading source.settling.is_always source.upstream.place source.body_since reach
+unfolding quiet_by looked_by
 quiet_is source Reads = refl
 quiet_is source Away = refl
 quiet_is source (Connects from) = refl
 quiet_is source (Asks count) = refl
 
+look_is : (source : Source) (reach : Reach) → look_at source reach ≡ look_by (may_be_left source) source.leading source.settling.is_always source.upstream.place source.body_since reach
+unfolding look_by looked_by
+look_is source Reads = refl
+look_is source Away = refl
+look_is source (Connects from) = refl
+look_is source (Asks count) = refl
+
 -- the same has nothing new for as long
 pub quiet_same : {a b : Source} → SameSource a b → SameWaiting a b → b.has_more ≡ a.has_more → quiet_at b b.reach ≡ quiet_at a a.reach
 quiet_same {a} {b} same waiting more =
     quiet_is b b.reach
-    ∙ ap (λ c. quiet_by (is_none c) b.places.items b.has_more b.rest.items b.returning b.upstream.place b.body_since b.reach) same.coming
-    ∙ ap (λ s. quiet_by (is_none a.coming) s.places b.has_more b.rest.items b.returning b.upstream.place b.body_since b.reach) same.servers
-    ∙ ap (λ m. quiet_by (is_none a.coming) a.places.items m b.rest.items b.returning b.upstream.place b.body_since b.reach) more
-    ∙ ap (λ r. quiet_by (is_none a.coming) a.places.items a.has_more r b.returning b.upstream.place b.body_since b.reach) same.rest
-    ∙ ap (λ r. quiet_by (is_none a.coming) a.places.items a.has_more a.rest.items r b.upstream.place b.body_since b.reach) waiting.returning
-    ∙ ap (λ u. quiet_by (is_none a.coming) a.places.items a.has_more a.rest.items a.returning u.place b.body_since b.reach) waiting.upstream
-    ∙ ap (λ s. quiet_by (is_none a.coming) a.places.items a.has_more a.rest.items a.returning a.upstream.place s b.reach) waiting.body_since
-    ∙ ap (λ r. quiet_by (is_none a.coming) a.places.items a.has_more a.rest.items a.returning a.upstream.place a.body_since r) same.reach
+    ∙ ap (λ m. quiet_by m b.places.items b.returning b.leading b.settling.is_always b.upstream.place b.body_since b.reach) (may_same same waiting more)
+    ∙ ap (λ s. quiet_by (may_be_left a) s.places b.returning b.leading b.settling.is_always b.upstream.place b.body_since b.reach) same.servers
+    ∙ ap (λ r. quiet_by (may_be_left a) a.places.items r b.leading b.settling.is_always b.upstream.place b.body_since b.reach) waiting.returning
+    ∙ ap (λ l. quiet_by (may_be_left a) a.places.items a.returning l b.settling.is_always b.upstream.place b.body_since b.reach) waiting.leading
+    ∙ ap (λ s. quiet_by (may_be_left a) a.places.items a.returning a.leading s.is_always b.upstream.place b.body_since b.reach) waiting.settling
+    ∙ ap (λ u. quiet_by (may_be_left a) a.places.items a.returning a.leading a.settling.is_always u.place b.body_since b.reach) waiting.upstream
+    ∙ ap (λ s. quiet_by (may_be_left a) a.places.items a.returning a.leading a.settling.is_always a.upstream.place s b.reach) waiting.body_since
+    ∙ ap (λ r. quiet_by (may_be_left a) a.places.items a.returning a.leading a.settling.is_always a.upstream.place a.body_since r) same.reach
     ∙ sym (quiet_is a a.reach)
+
+-- and the first one is looked at when it was
+pub look_same : {a b : Source} → SameSource a b → SameWaiting a b → b.has_more ≡ a.has_more → look_at b b.reach ≡ look_at a a.reach
+look_same {a} {b} same waiting more =
+    look_is b b.reach
+    ∙ ap (λ m. look_by m b.leading b.settling.is_always b.upstream.place b.body_since b.reach) (may_same same waiting more)
+    ∙ ap (λ l. look_by (may_be_left a) l b.settling.is_always b.upstream.place b.body_since b.reach) waiting.leading
+    ∙ ap (λ s. look_by (may_be_left a) a.leading s.is_always b.upstream.place b.body_since b.reach) waiting.settling
+    ∙ ap (λ u. look_by (may_be_left a) a.leading a.settling.is_always u.place b.body_since b.reach) waiting.upstream
+    ∙ ap (λ s. look_by (may_be_left a) a.leading a.settling.is_always a.upstream.place s b.reach) waiting.body_since
+    ∙ ap (λ r. look_by (may_be_left a) a.leading a.settling.is_always a.upstream.place a.body_since r) same.reach
+    ∙ sym (look_is a a.reach)
 
 pub stays_same : {a b : Source} (idle now : ℕ) → SameSource a b → SameWaiting a b → b.is_heard ≡ a.is_heard → (b.has_more ≡ a.has_more) ⊎ (b.has_more ≡ true) → IsToStay a idle now → IsToStay b idle now
 stays_same {a} {b} idle now same waiting heard (inl more) is = (
   why_same idle now waiting ∙ is.0,
-  ap (λ t. is_past t now) (quiet_same same waiting more) ∙ is.1,
-  ap (λ t. is_past t now) (newest_same waiting heard) ∙ is.2,
+  ap (λ t. is_past t now) (look_same same waiting more) ∙ is.1,
+  ap (λ t. is_past t now) (quiet_same same waiting more) ∙ is.2,
+  ap (λ t. is_past t now) (newest_same waiting heard) ∙ is.3,
 )
 stays_same {a} {b} idle now same waiting heard (inr more) is = (
   why_same idle now waiting ∙ is.0,
+  more_is_no_look b b.reach now more,
   more_is_new b b.reach now more,
-  ap (λ t. is_past t now) (newest_same waiting heard) ∙ is.2,
+  ap (λ t. is_past t now) (newest_same waiting heard) ∙ is.3,
 )
 
 pub moves_same : {a b : Source} (idle now : ℕ) → SameSource a b → SameWaiting a b → b.is_heard ≡ a.is_heard → b.has_more ≡ a.has_more → IsToMove a idle now → IsToMove b idle now
@@ -226,14 +281,17 @@ moves_same {a} {b} idle now same waiting heard more is = (
   by is.2,
 )
   where
-    by : (is_past (quiet_at a a.reach) now ≡ true) ⊎ (is_past (newest_time a) now ≡ true) → (is_past (quiet_at b b.reach) now ≡ true) ⊎ (is_past (newest_time b) now ≡ true)
-    by (inl quiet) = inl (ap (λ t. is_past t now) (quiet_same same waiting more) ∙ quiet)
-    by (inr newest) = inr (ap (λ t. is_past t now) (newest_same waiting heard) ∙ newest)
+    by : (is_past (look_at a a.reach) now ≡ true) ⊎ (is_past (quiet_at a a.reach) now ≡ true) ⊎ (is_past (newest_time a) now ≡ true)
+        → (is_past (look_at b b.reach) now ≡ true) ⊎ (is_past (quiet_at b b.reach) now ≡ true) ⊎ (is_past (newest_time b) now ≡ true)
+    by (inl look) = inl (ap (λ t. is_past t now) (look_same same waiting more) ∙ look)
+    by (inr (inl quiet)) = inr (inl (ap (λ t. is_past t now) (quiet_same same waiting more) ∙ quiet))
+    by (inr (inr newest)) = inr (inr (ap (λ t. is_past t now) (newest_same waiting heard) ∙ newest))
 
 -- an event came for it, and it is not to be left
 pub stays_awake : {a b : Source} (idle now : ℕ) → SameWaiting a b → b.is_heard ≡ a.is_heard → b.has_more ≡ true → why_left a idle now ≡ None → is_past (newest_time a) now ≡ false → IsToStay b idle now
 stays_awake {a} {b} idle now waiting heard more left newest = (
   why_same idle now waiting ∙ left,
+  more_is_no_look b b.reach now more,
   more_is_new b b.reach now more,
   ap (λ t. is_past t now) (newest_same waiting heard) ∙ newest,
 )

@@ -1,7 +1,7 @@
 -- How a turn stays at places of the log.
 use Rattle.std.proofs.Common.{◌≡◌, ◌≢◌, refl, eqb-true, inl, inr, sym, ap, ◌∙◌, subst, ℕ, List, [], length, nat_eq, Bool, None, Some, Option, ◌<◌, ◌≤◌}
 use Rattle.std.proofs.lemmas.Bool.Decides.{eqb_tells}
-use Rattle.std.specs.Prelude.{◌==◌, ◌⊎◌, ◌&&◌, if◌then◌else◌, nat_le, true, not, Contains, false, is_none, is_some, IsSome, string_bytes}
+use Rattle.std.specs.Prelude.{◌==◌, ◌⊎◌, ◌&&◌, ◌||◌, if◌then◌else◌, nat_le, true, not, Contains, false, is_none, is_some, IsSome, string_bytes}
 use Rattle.std.proofs.lemmas.List.{nil_from_length}
 use Rattle.slab.specs.Slab.{Slab}
 use Rattle.feed_settings.specs.Limits.{Limits}
@@ -19,7 +19,10 @@ use Rattle.feed_screens.specs.declared.screens.Screens.{Screens}
 use Rattle.feed_live.specs.declared.source.Reach.{Reach}
 use Rattle.feed_live.specs.declared.source.Reach.TheVariants.{Away}
 use Rattle.feed_live.specs.declared.source.returning.Returning.{Returning}
-use Rattle.feed_live.specs.Leaving.{BeginsOne, IsToLeave, is_past, late_at, why_late, why_left}
+use Rattle.feed_live.specs.Leaving.{BeginsOne, IsToLeave, has_left_quiet, is_past, late_at, why_late, why_left}
+use Rattle.feed_live.specs.Leading.{is_first, look_time}
+use Rattle.feed_live.specs.declared.source.leading.Leading.{Leading}
+use Rattle.feed_live.specs.declared.source.patience.Patience.{Patience}
 use Rattle.feed_device.specs.declared.report.Why.{Why}
 use Rattle.feed_device.specs.declared.report.Why.TheVariants.{Silent}
 use Rattle.feed_hub.specs.Upstream.{later}
@@ -30,7 +33,7 @@ use Rattle.feed_live.specs.declared.turn.Input.TheVariants.{End}
 use Rattle.feed_live.specs.declared.turn.Live.{Live}
 use Rattle.feed_live.specs.Answering.{has_heard}
 use Rattle.feed_live.specs.Ending.{SameBeside}
-use Rattle.feed_live.specs.Relaying.{pursuit, pursuit_of, MayFollow, AnswersFromLog, FollowsServers, IsRelaying, SameSource, SameWaiting, MayHaveMore, OnlyServes, GoesOn, IsToConnect, followed_by, screen_side, within_turn}
+use Rattle.feed_live.specs.Relaying.{pursuit, pursuit_of, MayFollow, AnswersFromLog, FollowsServers, IsRelaying, SameSource, SameWaiting, MayHaveMore, OnlyServes, GoesOnFrom, IsToConnect, followed_by, screen_side, within_turn}
 use Rattle.feed_screens.specs.Serving.{ServesScreens, StillServing}
 use Rattle.feed_live.specs.States.{states_of}
 use Rattle.feed_live.specs.Taking.{IsTakingInput, ShowsInput, BeginsInput}
@@ -45,11 +48,13 @@ pub same_none : (source : Source) → SameSource source source
 same_none source = record { servers = refl; shown = refl; blank = refl; coming = refl; follower = refl; reach = refl; request = refl; rest = refl; opened = refl }
 
 pub waiting_none : (source : Source) → SameWaiting source source
-waiting_none source = record { settling = refl; rechecking = refl; upstream = refl; reach = refl; returning = refl; opened = refl; body_since = refl }
+waiting_none source = record { leading = refl; patience = refl; settling = refl; rechecking = refl; upstream = refl; reach = refl; returning = refl; opened = refl; body_since = refl }
 
 pub waiting_then : {a b c : Source} → SameWaiting b c → SameWaiting a b → SameWaiting a c
 waiting_then two one =
     record {
+      leading = two.leading ∙ one.leading;
+      patience = two.patience ∙ one.patience;
       settling = two.settling ∙ one.settling;
       rechecking = two.rechecking ∙ one.rechecking;
       upstream = two.upstream ∙ one.upstream;
@@ -85,33 +90,42 @@ to_connect_same {a} {b} {now} waiting same is =
       place = subst (λ u. u.place < length b.places.items) (sym waiting.upstream) (subst (λ s. a.upstream.place < length s.places) (sym same.servers) is.place);
     }
 
-why_by : Upstream → Reach → Returning → ℕ → Option ℕ → ℕ → ℕ → Option Why
-why_by upstream reach returning opened body_since idle now =
+connects_by : Returning → Leading → Patience → ℕ
+connects_by returning leading patience = if has_left_quiet returning || patience.is_again || is_some leading.looks_from then 2000 else 10000
+
+answers_by : ℕ → Leading → Patience → ℕ
+answers_by place leading patience = if is_some leading.looks_from || patience.is_again && is_first leading place then look_time leading else patience.time
+
+why_by : Upstream → Reach → Returning → Leading → Patience → ℕ → Option ℕ → ℕ → ℕ → Option Why
+why_by upstream reach returning leading patience opened body_since idle now =
     if is_some upstream.follower && nat_le (later (later upstream.since idle) idle) now then Some Silent
-    else if is_past (late_at reach returning opened body_since) now then Some (why_late reach)
+    else if is_past (late_at reach (connects_by returning leading patience) (answers_by upstream.place leading patience) opened body_since) now then Some (why_late reach)
     else None
 
 -- a server is left for the same
 pub why_same : {a b : Source} (idle now : ℕ) → SameWaiting a b → why_left b idle now ≡ why_left a idle now
-unfolding why_by
+unfolding why_by connects_by answers_by
 why_same {a} {b} idle now waiting =
-    ap (λ u. why_by u b.reach b.returning b.opened b.body_since idle now) waiting.upstream
-    ∙ ap (λ r. why_by a.upstream r b.returning b.opened b.body_since idle now) waiting.reach
-    ∙ ap (λ r. why_by a.upstream a.reach r b.opened b.body_since idle now) waiting.returning
-    ∙ ap (λ o. why_by a.upstream a.reach a.returning o b.body_since idle now) waiting.opened
-    ∙ ap (λ s. why_by a.upstream a.reach a.returning a.opened s idle now) waiting.body_since
+    ap (λ u. why_by u b.reach b.returning b.leading b.patience b.opened b.body_since idle now) waiting.upstream
+    ∙ ap (λ r. why_by a.upstream r b.returning b.leading b.patience b.opened b.body_since idle now) waiting.reach
+    ∙ ap (λ r. why_by a.upstream a.reach r b.leading b.patience b.opened b.body_since idle now) waiting.returning
+    ∙ ap (λ l. why_by a.upstream a.reach a.returning l b.patience b.opened b.body_since idle now) waiting.leading
+    ∙ ap (λ p. why_by a.upstream a.reach a.returning a.leading p b.opened b.body_since idle now) waiting.patience
+    ∙ ap (λ o. why_by a.upstream a.reach a.returning a.leading a.patience o b.body_since idle now) waiting.opened
+    ∙ ap (λ s. why_by a.upstream a.reach a.returning a.leading a.patience a.opened s idle now) waiting.body_since
 
 pub left_same : {a b : Source} (idle now : ℕ) → SameWaiting a b → IsToLeave a idle now → IsToLeave b idle now
 left_same {a} {b} idle now waiting is =
     (λ away. is.0 (sym waiting.reach ∙ away), λ none. is.1 (sym (why_same idle now waiting) ∙ none))
 
 -- one was begun, from the same to the same
-pub begins_same : {before after : LinkCalls} (a b c d : Source) {now time : ℕ} → b.upstream ≡ a.upstream → d.upstream ≡ c.upstream → time ≡ now
+pub begins_same : {before after : LinkCalls} (a b c d : Source) {now time : ℕ} → b.upstream ≡ a.upstream → b.leading ≡ a.leading → d.upstream ≡ c.upstream → time ≡ now
     → BeginsOne before after b c time → BeginsOne before after a d now
-begins_same {before} {after} a b c d {now} {time} old new at begins =
-    subst (λ u. HasBegun before after ⊎ ((after ≡ before) × GoesOn a.upstream u now)) (sym new)
-    (subst (λ u. HasBegun before after ⊎ ((after ≡ before) × GoesOn u c.upstream now)) old
-    (subst (λ t. HasBegun before after ⊎ ((after ≡ before) × GoesOn b.upstream c.upstream t)) at begins))
+begins_same {before} {after} a b c d {now} {time} old leads new at begins =
+    subst (λ l. HasBegun before after ⊎ ((after ≡ before) × GoesOnFrom l.looks_from a.upstream d.upstream now)) leads
+    (subst (λ u. HasBegun before after ⊎ ((after ≡ before) × GoesOnFrom b.leading.looks_from a.upstream u now)) (sym new)
+    (subst (λ u. HasBegun before after ⊎ ((after ≡ before) × GoesOnFrom b.leading.looks_from u c.upstream now)) old
+    (subst (λ t. HasBegun before after ⊎ ((after ≡ before) × GoesOnFrom b.leading.looks_from b.upstream c.upstream t)) at begins)))
 
 -- one was begun, or there still is none
 pub away_still : {A : Type 0} {reach later : Reach} → later ≡ reach → A ⊎ (reach ≡ Away) → A ⊎ (later ≡ Away)

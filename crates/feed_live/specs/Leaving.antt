@@ -1,10 +1,10 @@
 -- For how long a relay waits for a server, and why it leaves one. All times are in milliseconds.
-use Rattle.std.specs.Prelude.{◌≡◌, ◌≢◌, ◌⊎◌, ℕ, ◌≤◌, ◌^◌, ◌-◌, ◌*◌, Bool, true, false, not, ◌&&◌, ◌||◌, nat_eq, nat_lt, nat_le, bytes_eq, min, max, if◌then◌else◌, List, [], ◌∷◌, length, Option, Some, None, is_some, is_none, option_map, IfSome}
+use Rattle.std.specs.Prelude.{◌≡◌, ◌≢◌, ◌⊎◌, ℕ, ◌≤◌, ◌^◌, ◌-◌, ◌*◌, ◌+◌, ◌%◌, Bool, true, false, not, ◌&&◌, ◌||◌, nat_eq, nat_lt, nat_le, bytes_eq, min, max, if◌then◌else◌, List, [], ◌∷◌, length, Option, Some, None, is_some, is_none, option_map, IfSome}
 use Rattle.feed_device.specs.Calls.{LinkCalls, HasBegun}
 use Rattle.feed_device.specs.Links.{Exchange, Exchanges}
 use Rattle.feed_device.specs.declared.report.Why.{Why}
 use Rattle.feed_device.specs.declared.report.Why.TheVariants.{Unknown, Refuses, Late, NoAnswer, Broke, Ended, Silent, Fault, Memory}
-use Rattle.feed_hub.specs.Upstream.{later}
+use Rattle.feed_hub.specs.Upstream.{counted_on, later}
 use Rattle.feed_node.specs.States.{NodeState, former_token, holds_token, published_token}
 use Rattle.feed_live.specs.declared.source.Reach.{Reach}
 use Rattle.feed_live.specs.declared.source.Reach.TheVariants.{Away, Connects, Asks, Reads}
@@ -12,6 +12,8 @@ use Rattle.feed_live.specs.declared.source.Source.{Source}
 use Rattle.feed_live.specs.declared.source.returning.Returning.{Returning}
 use Rattle.feed_live.specs.declared.source.rechecking.Brought.{Brought}
 use Rattle.feed_live.specs.declared.source.rechecking.Brought.TheVariants.{Nothing, Newest, Another}
+use Rattle.feed_live.specs.Answering.{wants_all}
+use Rattle.feed_live.specs.Leading.{is_first, is_instead, is_other_log, look_time}
 use Rattle.feed_live.specs.Relaying.{GoesOnTo}
 
 -- a time that there may be is past
@@ -42,25 +44,41 @@ is_end Memory = false
 abbrev pub has_left_quiet : Returning → Bool
 has_left_quiet returning = nat_lt 0 returning.left_quiet
 
+-- The first server is only looked at: another one is followed else.
+abbrev pub is_look : Source → Bool
+is_look source = is_some source.leading.looks_from
+
 -- For how long a server may take no connection: two seconds if another one was left for it that did
--- not fail, else ten.
-abbrev pub connect_time : Returning → ℕ
-connect_time returning = if has_left_quiet returning then 2000 else 10000
+-- not fail, or is followed else, or if it is asked again since its feed ended; else ten.
+abbrev pub connect_time : Source → ℕ
+connect_time source =
+    if has_left_quiet source.returning || source.patience.is_again || is_look source then 2000
+    else 10000
 
--- When an answer is late: twenty seconds after the connection was begun, until its head has come.
-abbrev pub answer_late : ℕ → Option ℕ → Option ℕ
-answer_late opened None = Some (later opened 20000)
-answer_late opened (Some since) = None
+-- For how long a server may give no answer: as long as all, but not the first one that is looked
+-- at, or asked again since its feed ended.
+abbrev pub response_time : Source → ℕ
+response_time source =
+    if is_look source
+    || source.patience.is_again && is_first source.leading source.upstream.place
+    then look_time source.leading else source.patience.time
 
--- When a server is late that does not take the connection, or does not answer.
-abbrev pub late_at : Reach → Returning → ℕ → Option ℕ → Option ℕ
-late_at Away returning opened body_since = None
-late_at (Connects since) returning opened body_since = Some (later since (connect_time returning))
-late_at (Asks count) returning opened body_since = answer_late opened body_since
-late_at Reads returning opened body_since = answer_late opened body_since
+-- When an answer is late: so long after the connection was begun, until its head has come.
+abbrev pub answer_late : ℕ → ℕ → Option ℕ → Option ℕ
+answer_late opened time None = Some (later opened time)
+answer_late opened time (Some since) = None
+
+-- When a server is late that may take so long to take the connection, and so long to answer.
+abbrev pub late_at : Reach → ℕ → ℕ → ℕ → Option ℕ → Option ℕ
+late_at Away connects answers opened body_since = None
+late_at (Connects since) connects answers opened body_since = Some (later since connects)
+late_at (Asks count) connects answers opened body_since = answer_late opened answers body_since
+late_at Reads connects answers opened body_since = answer_late opened answers body_since
 
 abbrev pub late_time : Source → Option ℕ
-late_time source = late_at source.reach source.returning source.opened source.body_since
+late_time source =
+    late_at source.reach (connect_time source) (response_time source) source.opened
+    source.body_since
 
 abbrev pub why_late : Reach → Why
 why_late Away = NoAnswer
@@ -107,6 +125,12 @@ pub record HasPublishedAt (new : Source) (now : ℕ) : Type 0 where
 abbrev pub were_all_left : Source → Bool
 were_all_left source = nat_le (length source.places.items) source.returning.left_quiet
 
+-- How many of so many servers were left so in this round, once one more is. Once each was, a round
+-- begins only when the first one is left again.
+abbrev pub left_next : ℕ → ℕ → Bool → ℕ
+left_next count servers is_first =
+    if nat_lt count servers then count + 1 else if is_first then 1 else count
+
 -- For how long a server is followed that has nothing new: as long as the relay is set to. While the
 -- servers are asked one after another, ten seconds, if that is less. The first one, once each was
 -- asked, five times as long.
@@ -128,14 +152,60 @@ quiet_since source since =
     later (max since source.returning.published)
     (quiet_time source.returning (nat_eq source.upstream.place 0) (were_all_left source))
 
+-- The first server is looked at, while another one is followed in its place: not where each
+-- connection asks for everything.
+abbrev pub is_looked_at : Source → Bool
+is_looked_at source =
+    is_instead source.leading source.upstream.place && not source.settling.is_always
+
+-- and that is the only other one: it isn't left for having nothing new
+abbrev pub is_only_other : Source → Bool
+is_only_other source = is_looked_at source && nat_lt source.leading.others 2
+
 -- When a server is left whose answer is read, and that has nothing new: so long after the head of
 -- that answer came, or after something was published, whichever was later.
 abbrev pub quiet_at : Source → Reach → Option ℕ
 quiet_at source Reads =
-    if may_be_left source then option_map (quiet_since source) source.body_since else None
+    if may_be_left source && not (is_only_other source)
+    then option_map (quiet_since source) source.body_since else None
 quiet_at source Away = None
 quiet_at source (Connects since) = None
 quiet_at source (Asks count) = None
+
+-- Which one is asked after one that has nothing new: the next one; after the last one not the first
+-- server, where that is looked at.
+abbrev pub after_quiet : Source → ℕ
+after_quiet source =
+    if is_looked_at source && nat_le (length source.places.items) (source.upstream.place + 1)
+    then source.leading.places else min (source.upstream.place + 1) (2 ^ 64 - 1)
+
+-- How many have refused the token once this one does, in a row: not where the first server was only
+-- looked at, or has another log.
+abbrev pub refused_after : Source → ℕ → ℕ
+refused_after source now =
+    if is_look source || is_other_log source.leading source.upstream.place now
+    then source.upstream.refused
+    else counted_on source.upstream.refused source.upstream.places
+
+-- ---- the first server, where another one is followed in its place
+
+-- When it is looked at: when its time has come, and the other one was followed for two seconds.
+abbrev pub look_at : Source → Reach → Option ℕ
+look_at source Reads =
+    if may_be_left source && is_looked_at source
+    then option_map (λ since. max source.leading.look_at (later since 2000)) source.body_since
+    else None
+look_at source Away = None
+look_at source (Connects since) = None
+look_at source (Asks count) = None
+
+-- A look at it begins: it is asked at once, and the other one where that fails.
+pub record LooksAtFirst (old new : Source) (now : ℕ) : Type 0 where
+  pub place : new.upstream.place ≡ old.leading.next % old.upstream.places
+  pub at_once : new.upstream.since ≡ now
+  pub counts : (new.upstream.failed ≡ old.upstream.failed)
+      × (new.upstream.refused ≡ old.upstream.refused)
+  pub back : new.leading.looks_from ≡ Some old.upstream.place
 
 -- ---- a server that sends nothing
 
@@ -158,7 +228,8 @@ newest_time source =
 abbrev pub is_to_recheck : Source → Bool
 is_to_recheck source =
     source.rechecking.is_on && not source.rechecking.asks_newest
-    && not source.settling.is_always && is_some source.answers.shown.mirror.since
+    && not source.settling.is_always && not (wants_all source)
+    && is_some source.answers.shown.mirror.since
     && is_some (former_token source.answers.shown.mirror.node)
 
 -- What a token is to a node, where one came: the newest that it has published; or another one, that
@@ -194,12 +265,13 @@ BeginsOne before after old new now =
 abbrev pub IsToLeave : Source → ℕ → ℕ → Type 0
 IsToLeave source idle now = (source.reach ≢ Away) × (why_left source idle now ≢ None)
 
--- A server is followed that is to be left for another reason: it has nothing new for long, or is to
--- be asked with the newest token.
+-- A server is followed that is to be left for another reason: the first one is to be looked at, or
+-- it has nothing new for long, or is to be asked with the newest token.
 abbrev pub IsToMove : Source → ℕ → ℕ → Type 0
 IsToMove source idle now =
     (source.reach ≢ Away) × (why_left source idle now ≡ None)
-    × ((is_past (quiet_at source source.reach) now ≡ true)
+    × ((is_past (look_at source source.reach) now ≡ true)
+    ⊎ (is_past (quiet_at source source.reach) now ≡ true)
     ⊎ (is_past (newest_time source) now ≡ true))
 
 -- nothing is to be read
@@ -211,20 +283,38 @@ abbrev pub LeavesLate : Source → Source → ℕ → ℕ → Type 0
 LeavesLate old new idle now =
     IsToLeave old idle now → (new.reach ≡ Away) × (new.has_more ≡ false) × GoesOnTo old new now
 
--- It is neither late nor silent, nor is it to be left for having nothing new, nor to be asked with
--- the newest token.
+-- It is neither late nor silent, nor is it to be left for a look at the first one, or for having
+-- nothing new, nor to be asked with the newest token.
 abbrev pub IsToStay : Source → ℕ → ℕ → Type 0
 IsToStay source idle now =
     (why_left source idle now ≡ None)
+    × (is_past (look_at source source.reach) now ≡ false)
     × (is_past (quiet_at source source.reach) now ≡ false)
     × (is_past (newest_time source) now ≡ false)
 
+-- The feed of a server stood open for five seconds or more, and nothing of it is yet to settle.
+abbrev pub stood_long : Source → ℕ → Bool
+stood_long source now =
+    is_past (option_map (λ since. later since 5000) source.body_since) now
+    && is_none source.coming
+
+-- The same place is asked again, at once; failures are counted from none, and the next pause is the
+-- shortest. The round of those that are left for having nothing new goes on.
+pub record AsksAgain (old new : Source) (now : ℕ) : Type 0 where
+  pub round : new.returning ≡ old.returning
+  pub place : (new.upstream.places ≡ old.upstream.places)
+      × (new.upstream.place ≡ old.upstream.place)
+  pub at_once : new.upstream.since ≡ now
+  pub counts : (new.upstream.failed ≡ 0) × (new.upstream.refused ≡ old.upstream.refused)
+  pub pause : new.upstream.pause ≡ 1000
+
 -- ---- when a relay looks
 
--- no later than a server is silent or late, is left for having nothing new, counts as heard, or is
--- asked with the newest token
+-- no later than a server is silent or late, is left for a look at the first one or for having
+-- nothing new, counts as heard, or is asked with the newest token
 pub record LooksInTime (source : Source) (due : ℕ) : Type 0 where
   pub late : IsBy (late_time source) due
+  pub first : IsBy (look_at source source.reach) due
   pub quiet : IsBy (quiet_at source source.reach) due
   pub heard : IsBy (heard_time source) due
   pub newest : IsBy (newest_time source) due

@@ -15,3 +15,5 @@ pub mod Leaving
 pub mod Afresh
 pub mod Times
 pub mod Calling
+pub mod Leading
+pub mod Patience

@@ -1,6 +1,6 @@
 -- THE PROMISE of a relay that follows servers: what it shows, and what each socket was handed, is
 -- of the primary's log, as long as the servers are honest.
-use Rattle.std.specs.Prelude.{◌≡◌, ◌≢◌, ◌⊎◌, ℕ, ◌<◌, ◌≤◌, Bool, false, true, List, [], ◌∷◌, ◌++◌, length, take, Option, Some, None, option_map, is_none, IsSome, Contains, string_bytes}
+use Rattle.std.specs.Prelude.{◌≡◌, ◌≢◌, ◌⊎◌, ℕ, ◌<◌, ◌≤◌, ◌%◌, Bool, false, true, List, [], ◌∷◌, ◌++◌, length, take, Option, Some, None, option_map, is_none, IsSome, Contains, string_bytes}
 use Rattle.slab.specs.Slab.{Slab}
 use Rattle.feed_settings.specs.Limits.{Limits}
 use Rattle.feed_node.specs.Mirroring.{MirrorState}
@@ -250,6 +250,8 @@ RestsAway source = source.reach ≡ Away → source.has_more ≡ false
 
 -- nothing changed of what a server is waited for, nor of which one is asked, and when
 pub record SameWaiting (old new : Source) : Type 0 where
+  pub leading : new.leading ≡ old.leading
+  pub patience : new.patience ≡ old.patience
   pub settling : new.settling ≡ old.settling
   pub rechecking : new.rechecking ≡ old.rechecking
   pub upstream : new.upstream ≡ old.upstream
@@ -297,8 +299,19 @@ GoesOn old new now =
     old.places now old.pause)
     × (new.pause ≡ pause_next old.failed old.places old.pause 30000) × (new.refused ≡ old.refused)
 
+-- this place is asked again, at once, and nothing is counted
+abbrev pub GoesBack : ℕ → Upstream → Upstream → ℕ → Type 0
+GoesBack place old new now =
+    (new.places ≡ old.places) × (new.place ≡ place % old.places) × (new.failed ≡ old.failed)
+    × (new.since ≡ now) × (new.pause ≡ old.pause) × (new.refused ≡ old.refused)
+
+-- The next place is asked; where the first server was only looked at, the one that is followed.
+abbrev pub GoesOnFrom : Option ℕ → Upstream → Upstream → ℕ → Type 0
+GoesOnFrom None old new now = GoesOn old new now
+GoesOnFrom (Some place) old new now = GoesBack place old new now
+
 abbrev pub GoesOnTo : Source → Source → ℕ → Type 0
-GoesOnTo old new now = GoesOn old.upstream new.upstream now
+GoesOnTo old new now = GoesOnFrom old.leading.looks_from old.upstream new.upstream now
 
 -- where one began afresh, what is shown is the same; else that is what follows
 abbrev pub KeepsShown : Option MirrorState → Option MirrorState → MirrorState → MirrorState → Type 0

@@ -6,8 +6,12 @@ ghost use Rattle.feed_device.specs.declared.device.Stop.TheVariants.{Waits};
 ghost use Rattle.feed_live.specs.Leaving.{LooksInTime, IsBy, heard_time};
 
 mod asking;
+mod beginning;
 mod connecting;
 mod input;
+mod leading;
+mod looking;
+mod patience;
 mod rate;
 mod reading;
 mod rechecking;
@@ -16,12 +20,15 @@ mod saying;
 mod settling;
 
 use crate::options::LiveLimits;
+use crate::source::beginning::Beginning;
+use crate::source::leading::Leading;
+use crate::source::patience::Patience;
 use crate::source::rechecking::Rechecking;
 use crate::source::returning::Returning;
 use crate::source::settling::Settling;
 use crate::times::QUIET;
 use feed_answer::{Identity, Place};
-use feed_device::{Desk, Excerpt, Stop};
+use feed_device::{Desk, Stop};
 use feed_figures::{FeedFigures, Following};
 use feed_hub::{Answering, Upstream};
 use feed_node::{Mirror, Node};
@@ -59,24 +66,26 @@ pub(crate) struct Source {
     settling: Settling,
     /// The last token of what came afresh when the connection ended before it had settled.
     ended: Option<Name>,
-    /// The first line of the body that came afresh last; empty where none did, or it was too long.
-    replayed: Vec<u8>,
-    /// No line of this body came yet.
-    is_at_start: bool,
-    /// Where the head of the response says that the feed is.
-    location: Option<Excerpt>,
+    /// Whether its body was complete then.
+    ended_whole: bool,
+    /// How the body that came afresh last began, and how this one does.
+    beginning: Beginning,
     /// How far the connection has come.
     reach: Reach,
     /// The request that was made for it.
     request: Vec<u8>,
     /// When the connection was begun, in milliseconds.
     opened: u64,
+    /// How long a server may take to answer.
+    patience: Patience,
     /// Since when a response has a good head; none where it has none yet.
     body_since: Option<u64>,
     /// It was reported that this connection gives one token to two states.
     has_reported_twice: bool,
     /// When a server is left that has nothing new.
     returning: Returning,
+    /// What is known of the first server.
+    leading: Leading,
     /// Whether a server still has the newest commit.
     rechecking: Rechecking,
     /// A server was heard, or there is nothing that a server has to say first.
@@ -161,6 +170,7 @@ impl Source {
             → limits.serves_old ≡ false → result.is_heard ≡ false }
     {
         let is_heard = answers_at_once(&mirror, &places, limits.serves_old);
+        let leading = Leading::new(places.as_slice());
         Source {
             upstream: Upstream::new(places.len().max(1), desk.time),
             places,
@@ -172,15 +182,16 @@ impl Source {
             coming: None,
             settling: Settling::new(limits.settle, limits.is_fresh, limits.are_strange),
             ended: None,
-            replayed: Vec::new(desk.alloc),
-            is_at_start: true,
-            location: None,
+            ended_whole: false,
+            beginning: Beginning::new(desk.alloc),
             reach: Reach::Away,
             request: Vec::new(desk.alloc),
             opened: desk.time,
+            patience: Patience::new(),
             body_since: None,
             has_reported_twice: false,
             returning: Returning::new(limits.return_after, desk.time),
+            leading,
             rechecking: Rechecking::new(limits.rechecks),
             is_heard,
             away_since: desk.time,
@@ -232,7 +243,12 @@ impl Source {
 
     pub(crate) fn figures(&self) -> FeedFigures {
         let (coming_lines, coming_bytes) = self.come();
-        self.figures.with_coming(coming_lines, coming_bytes)
+        let server = self.figures.server;
+        let is_followed = self.figures.following == Following::Answered;
+        let lack = self.leading.lack(server, is_followed);
+        self.figures
+            .with_coming(coming_lines, coming_bytes)
+            .with_lack(self.leading.index(server), lack)
     }
 
     /// An event came for the connection.
@@ -263,6 +279,7 @@ impl Source {
     {
         let due = sooner(u64::MAX, self.late_at());
         let due = sooner(due, self.returns_at());
+        let due = sooner(due, self.look_at());
         let due = sooner(due, self.heard_at());
         let due = sooner(due, self.newest_at());
         let due = sooner(due, self.settles_at());

@@ -5,8 +5,8 @@ use feed_figures::{FeedFigures, Following, LONG_WAIT, Reason};
 use feed_files::FileFigures;
 use feed_screens::{ScreenFigures, ScreenRow};
 use feed_status::{
-    FailureCount, FileStatus, LastFailure, Latency, Plots, Refused, ScreensStatus, UpstreamState,
-    UpstreamStatus, WatchedScreen,
+    FailureCount, FileStatus, InPlaceOf, LastFailure, Latency, Plots, Refused, ScreensStatus,
+    UpstreamState, UpstreamStatus, WatchedScreen,
 };
 use feed_system::since_1970;
 use std::alloc::{AllocError, Global};
@@ -57,6 +57,10 @@ pub struct Words {
     pub name: String,
     /// Why the last attempt to follow one failed.
     pub failure: String,
+    /// The name of the first server.
+    pub first: String,
+    /// Why that is not followed.
+    pub lack: String,
     /// Why the state file can't be written.
     pub fault: String,
 }
@@ -89,6 +93,15 @@ fn last_failure<'a>(words: &'a Words, age_ms: u64) -> LastFailure<'a> {
     }
 }
 
+/// What is told of the first server, which has not been followed for so long.
+fn in_place_of<'a>(words: &'a Words, for_ms: u64) -> InPlaceOf<'a> {
+    InPlaceOf {
+        name: words.first.as_str(),
+        why: words.lack.as_str(),
+        for_ms,
+    }
+}
+
 /// What is told of the server that is followed.
 pub fn upstream_of<'a>(feed: &FeedFigures, words: &'a Words, now: u64) -> UpstreamStatus<'a> {
     let waiting_ms = match feed.waiting {
@@ -99,11 +112,17 @@ pub fn upstream_of<'a>(feed: &FeedFigures, words: &'a Words, now: u64) -> Upstre
         Some((_, at)) => Some(last_failure(words, now.saturating_sub(at))),
         None => None,
     };
+    let in_place_of = match feed.lack {
+        Some((_, since)) => Some(in_place_of(words, now.saturating_sub(since))),
+        None => None,
+    };
     let failed_by = feed
         .failed_by
         .map(|(reason, count)| failed(words, reason, count));
     UpstreamStatus {
         name: words.name.as_str(),
+        index: feed.index,
+        in_place_of,
         state: state_of(feed.following),
         since_ms: now.saturating_sub(feed.changed),
         silent_ms: now.saturating_sub(feed.heard),

@@ -5,6 +5,9 @@ use crate::status::{Status, UpstreamState, UpstreamStatus};
 use crate::warnings::Warnings;
 use std::fmt;
 
+/// For how long a server may be asked again whose feed ended, in milliseconds.
+const MOMENT: u64 = 2_000;
+
 /// How well a relay follows.
 #[derive(Clone, Copy)]
 pub enum Level {
@@ -48,7 +51,14 @@ impl Status<'_> {
     /// Whether something is wrong beside how upstream is followed.
     fn has_trouble(&self) -> bool {
         let fails_to_save = self.state_file.is_some_and(|file| file.fault.is_some());
-        fails_to_save || self.upstream.lacks_tokens || !self.answering || self.screens.full
+        let lacks_first = self.upstream.in_place_of.is_some();
+        let lacks = lacks_first || self.upstream.lacks_tokens;
+        fails_to_save || lacks || !self.answering || self.screens.full
+    }
+
+    /// Whether a server is asked again whose feed ended a moment ago, and that did not fail.
+    fn is_asked_again(&self) -> bool {
+        self.commits > 0 && self.upstream.failures == 0 && self.upstream.since_ms < MOMENT
     }
 
     /// How well it follows.
@@ -56,6 +66,7 @@ impl Status<'_> {
         let follows = match self.upstream.state {
             UpstreamState::Following => true,
             UpstreamState::Input => true,
+            UpstreamState::Asking | UpstreamState::Pausing => self.is_asked_again(),
             _ => false,
         };
         if !self.is_heard() {
@@ -96,6 +107,22 @@ impl fmt::Display for Because<'_> {
     }
 }
 
+/// Which server is not followed, where another one is in its place.
+#[derive(Clone, Copy)]
+struct Instead<'a>(&'a UpstreamStatus<'a>);
+
+impl fmt::Display for Instead<'_> {
+    fn fmt<W: fmt::Write>(&self, f: &mut fmt::Formatter<W>) -> fmt::Result {
+        match self.0.in_place_of {
+            Some(first) => {
+                let (name, why, time) = (first.name, first.why, Time(first.for_ms));
+                write!(f, " in place of {name} ({why}), for {time}")
+            }
+            None => Ok(()),
+        }
+    }
+}
+
 /// When the last commit came.
 #[derive(Clone, Copy)]
 struct LastCommit(Option<u64>);
@@ -123,13 +150,19 @@ impl fmt::Display for Followed<'_> {
             UpstreamState::Following | UpstreamState::Settling if !self.0.is_heard() => {
                 write!(f, "{name} is silent for {silent} s")
             }
-            UpstreamState::Following | UpstreamState::Input => write!(f, "following {name}"),
+            UpstreamState::Following | UpstreamState::Input => {
+                let instead = Instead(upstream);
+                write!(f, "following {name}{instead}")
+            }
             UpstreamState::Settling => {
                 let coming = Coming(upstream);
                 write!(
                     f,
                     "settling {name} for {since} s: {coming} so far; nothing of it is shown yet"
                 )
+            }
+            UpstreamState::Asking | UpstreamState::Pausing if self.0.is_asked_again() => {
+                write!(f, "asking {name} again")
             }
             UpstreamState::Asking => {
                 let because = Because(upstream);

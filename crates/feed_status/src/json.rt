@@ -6,8 +6,8 @@ use crate::plots::{Latest, PlotsJson, Point};
 use crate::rows::Row;
 use crate::screens::{ScreenJson, ScreensJson};
 use crate::status::{
-    FailureCount, FileStatus, LastFailure, Latency, Refused, ScreensStatus, Status, UpstreamState,
-    UpstreamStatus,
+    FailureCount, FileStatus, InPlaceOf, LastFailure, Latency, Refused, ScreensStatus, Status,
+    UpstreamState, UpstreamStatus,
 };
 use serde::{Described, Serialize, Serializer};
 
@@ -97,6 +97,8 @@ impl Serialize for UpstreamStatus<'_> {
     fn serialize<S: Serializer>(&self, out: &mut S) -> Result<(), S::Error> {
         let put = out.begin_map(None);
         let put = put_member(put, "name", &self.name, out);
+        let put = put_member(put, "index", &self.index, out);
+        let put = put_member(put, "in_place_of", &self.in_place_of, out);
         let put = put_member(put, "state", &self.state, out);
         let put = put_member(put, "since_ms", &self.since_ms, out);
         let put = put_member(put, "silent_ms", &self.silent_ms, out);
@@ -108,6 +110,18 @@ impl Serialize for UpstreamStatus<'_> {
         let put = put_member(put, "waiting", &self.waiting, out);
         let put = put_member(put, "waiting_ms", &self.waiting_ms, out);
         let put = put_member(put, "lacks_tokens", &self.lacks_tokens, out);
+        put_end(put, out)
+    }
+}
+
+impl Described for InPlaceOf<'_> {}
+
+impl Serialize for InPlaceOf<'_> {
+    fn serialize<S: Serializer>(&self, out: &mut S) -> Result<(), S::Error> {
+        let put = out.begin_map(None);
+        let put = put_member(put, "name", &self.name, out);
+        let put = put_member(put, "why", &self.why, out);
+        let put = put_member(put, "for_ms", &self.for_ms, out);
         put_end(put, out)
     }
 }

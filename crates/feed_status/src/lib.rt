@@ -22,7 +22,7 @@ pub use health::Level;
 pub use plots::{Latest, Plots, Point};
 pub use screens::WatchedScreen;
 pub use status::{
-    BOUNDS, FailureCount, FileStatus, LastFailure, Latency, Refused, ScreensStatus, Status,
-    UpstreamState, UpstreamStatus,
+    BOUNDS, FailureCount, FileStatus, InPlaceOf, LastFailure, Latency, Refused, ScreensStatus,
+    Status, UpstreamState, UpstreamStatus,
 };
 pub use watch::{Process, Watch};

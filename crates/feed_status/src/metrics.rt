@@ -112,7 +112,7 @@ static SHOWN: [Family; 2] = [
 ];
 
 /// The server, and what comes of it.
-static UPSTREAM: [Family; 7] = [
+static UPSTREAM: [Family; 9] = [
     Family {
         name: "tunygarop_upstream_state_seconds",
         kind: "gauge",
@@ -155,9 +155,21 @@ static UPSTREAM: [Family; 7] = [
         unit: Unit::Things,
         help: "Bytes not shown until they settle.",
     },
+    Family {
+        name: "tunygarop_upstream_index",
+        kind: "gauge",
+        unit: Unit::Things,
+        help: "0 where the first server is asked.",
+    },
+    Family {
+        name: "tunygarop_upstream_in_place_seconds",
+        kind: "gauge",
+        unit: Unit::Milliseconds,
+        help: "Time without the first server.",
+    },
 ];
 
-fn of_upstream(status: &Status<'_>) -> [u64; 7] {
+fn of_upstream(status: &Status<'_>) -> [u64; 9] {
     let upstream = &status.upstream;
     let follows = matches!(
         upstream.state,
@@ -171,6 +183,8 @@ fn of_upstream(status: &Status<'_>) -> [u64; 7] {
         upstream.failures,
         upstream.coming_lines,
         upstream.coming_bytes,
+        upstream.index,
+        upstream.in_place_of.map(|first| first.for_ms).unwrap_or(0),
     ]
 }
 

@@ -62,11 +62,26 @@ pub struct LastFailure<'a> {
     pub age_ms: u64,
 }
 
+/// The first server, where another one is followed in its place.
+#[derive(Clone, Copy)]
+pub struct InPlaceOf<'a> {
+    /// Its host and port.
+    pub name: &'a str,
+    /// Why it is not followed.
+    pub why: &'a str,
+    /// For how long it has not been.
+    pub for_ms: u64,
+}
+
 /// The server that is followed.
 #[derive(Clone, Copy)]
 pub struct UpstreamStatus<'a> {
     /// Its host and port, or `standard input`.
     pub name: &'a str,
+    /// Its number among those that were named, from 0 for the first one.
+    pub index: u64,
+    /// The first one, where that is not followed.
+    pub in_place_of: Option<InPlaceOf<'a>>,
     /// How things stand with it.
     pub state: UpstreamState,
     /// For how long that is its state.

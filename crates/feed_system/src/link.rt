@@ -19,6 +19,8 @@ struct Server {
     number: usize,
     /// The address at which it was asked last.
     address: Option<SocketAddr>,
+    /// Why it could not be connected to then, as the system says it.
+    reason: Option<io::ErrorKind>,
 }
 
 /// The servers, and the connection to one of them.
@@ -36,6 +38,8 @@ pub struct Servers<'r> {
     servers: Vec<Server>,
     /// The connection; none if it is closed.
     stream: Option<TcpStream>,
+    /// The number of the server that it is one to.
+    asked: usize,
 }
 
 /// The servers of some hosts, in order.
@@ -47,6 +51,7 @@ fn servers_of(alloc: Global, hosts: &[ServerName]) -> Result<Vec<Server>, AllocE
                 host,
                 number,
                 address: None,
+                reason: None,
             })?;
         }
     }
@@ -81,6 +86,7 @@ impl<'r> Servers<'r> {
             servers: servers_of(rt.alloc(), &hosts)?,
             hosts,
             stream: None,
+            asked: 0,
         })
     }
 
@@ -103,6 +109,12 @@ impl<'r> Servers<'r> {
         server.address
     }
 
+    /// Why the server of a number could not be connected to when it was asked last, as the system
+    /// says it.
+    pub(crate) fn reason(&self, server: usize) -> Option<io::ErrorKind> {
+        self.servers.get(server)?.reason
+    }
+
     /// Begins to connect to an address.
     fn connect_to(&mut self, address: SocketAddr) -> Result<(), Why> {
         match connection(self.rt, &self.registry, self.token, address) {
@@ -110,7 +122,25 @@ impl<'r> Servers<'r> {
                 self.stream = Some(stream);
                 Ok(())
             }
-            Err(_) => Err(Why::Refuses),
+            Err(error) => {
+                self.note(Some(error.kind()));
+                Err(Why::Refuses)
+            }
+        }
+    }
+
+    /// Notes why the server that is asked can't be connected to.
+    fn note(&mut self, reason: Option<io::ErrorKind>) {
+        if let Some(server) = self.servers.get_mut(self.asked) {
+            server.reason = reason;
+        }
+    }
+
+    /// What the system says of the connection; it tells an error once.
+    fn error(&self) -> Option<io::ErrorKind> {
+        match self.stream.as_ref()?.take_error() {
+            Ok(None) => None,
+            Ok(Some(error)) | Err(error) => Some(error.kind()),
         }
     }
 }
@@ -118,6 +148,8 @@ impl<'r> Servers<'r> {
 impl Link for Servers<'_> {
     fn connect(&mut self, server: usize) -> Result<(), Why> {
         self.stream = None;
+        self.asked = server;
+        self.note(None);
         match self.address(server) {
             Some(address) => self.connect_to(address),
             None => Err(Why::Unknown),
@@ -131,14 +163,13 @@ impl Link for Servers<'_> {
     }
 
     fn is_open(&mut self) -> Result<bool, Stop> {
+        if let Some(error) = self.error() {
+            self.note(Some(error));
+            return Err(Stop::Failed);
+        }
         let Some(stream) = &self.stream else {
             return Err(Stop::Failed);
         };
-        // The system tells the error once.
-        match stream.take_error() {
-            Ok(None) => {}
-            _ => return Err(Stop::Failed),
-        }
         if stream.peer_addr().is_err() {
             return Ok(false);
         }

@@ -2,9 +2,11 @@
 
 use crate::link::Servers;
 use feed_arguments::Verbosity;
-use feed_device::{Excerpt, Report};
+use feed_device::{Excerpt, Lack, Report, Why};
+use feed_follow::FollowFault;
 use jiff::Timestamp;
 use std::alloc::{AllocError, Global};
+use std::io;
 use std::time::{SystemTime, UNIX_EPOCH};
 
 /// The time, to the second.
@@ -55,9 +57,15 @@ fn server_of(report: &Report) -> Option<usize> {
         Report::Found { server, .. }
         | Report::Lost { server, .. }
         | Report::Quiet { server, .. }
+        | Report::Instead { server, .. }
+        | Report::Again { server, .. }
         | Report::Moved { server, .. }
+        | Report::NotFound { server, .. }
+        | Report::Tls { server }
         | Report::Faulty { server, .. }
         | Report::Refused { server }
+        | Report::OtherLog { server }
+        | Report::Behind { server }
         | Report::Ignores { server }
         | Report::Differs { server, .. }
         | Report::Forgot { server, .. }
@@ -75,8 +83,19 @@ pub(crate) fn text_of(
     report: &Report,
     servers: &Servers<'_>,
 ) -> Result<String, AllocError> {
+    if let Report::Instead { server, why } = *report {
+        let (name, first) = (servers.name(alloc, server)?, servers.name(alloc, 0)?);
+        let advice = match why {
+            Lack::Left(why) => advice_on(why),
+            _ => "",
+        };
+        return format!(in alloc; "upstream {name}: followed in place of {first} ({why}){advice}");
+    }
     if let Some(server) = server_of(report) {
         let name = servers.name(alloc, server)?;
+        if let Report::Lost { why, pause, .. } = *report {
+            return text_of_lost(alloc, name.as_str(), why, pause, servers.reason(server));
+        }
         return text_of_server(alloc, report, name.as_str());
     }
     match *report {
@@ -97,16 +116,26 @@ fn text_of_server(alloc: Global, report: &Report, name: &str) -> Result<String, 
         Report::Found { away, .. } => {
             format!(in alloc; "upstream {name}: answers, after {away} ms")
         }
-        Report::Lost { why, pause, .. } => {
-            format!(in alloc; "upstream {name}: {why}; next in {pause} ms")
-        }
         Report::Quiet { time, .. } => {
             let seconds = time / 1_000;
             format!(in alloc; "upstream {name}: nothing new for {seconds} s; another one is asked")
         }
+        Report::Again { time, .. } => {
+            let seconds = time / 1_000;
+            format!(in alloc; "upstream {name}: followed again, after {seconds} s")
+        }
         Report::Moved { location, .. } => {
             let location = location.text();
             format!(in alloc; "upstream {name}: the feed is at {location}: name that server")
+        }
+        Report::NotFound { line, .. } => {
+            let line = line.text();
+            format!(in alloc; "upstream {name}: was asked: {line}: see --base and --contest")
+        }
+        Report::Tls { .. } => {
+            format!(in alloc;
+                "upstream {name}: speaks TLS: name a proxy that speaks it to the server"
+            )
         }
         Report::Faulty { line, .. } => {
             let line = line.text();
@@ -119,10 +148,47 @@ fn text_of_server(alloc: Global, report: &Report, name: &str) -> Result<String, 
     }
 }
 
+/// The text of a server that is left; with the reason that the system gave, where it can't be
+/// connected to.
+fn text_of_lost(
+    alloc: Global,
+    name: &str,
+    why: Why,
+    pause: u64,
+    reason: Option<io::ErrorKind>,
+) -> Result<String, AllocError> {
+    match (why, reason) {
+        (Why::Refuses, Some(reason)) => {
+            format!(in alloc; "upstream {name}: {why} ({reason}); next in {pause} ms")
+        }
+        _ => {
+            let advice = advice_on(why);
+            format!(in alloc; "upstream {name}: {why}{advice}; next in {pause} ms")
+        }
+    }
+}
+
+/// What to do about a server that is left, where its status says that.
+fn advice_on(why: Why) -> &'static str {
+    match why {
+        Why::Fault(FollowFault::Status(401 | 403)) => " (see --user-file)",
+        Why::Fault(FollowFault::Status(400)) => " (a port that speaks TLS answers so, too)",
+        _ => "",
+    }
+}
+
 /// The text of a report of our token and a server.
 fn text_of_token(alloc: Global, report: &Report, name: &str) -> Result<String, AllocError> {
     match *report {
         Report::Refused { .. } => format!(in alloc; "upstream {name}: doesn't hold our token"),
+        Report::OtherLog { .. } => {
+            format!(in alloc;
+                "upstream {name}: doesn't hold our token, again: it is asked for everything"
+            )
+        }
+        Report::Behind { .. } => {
+            format!(in alloc; "upstream {name}: is behind what is shown: nothing of it is shown")
+        }
         Report::Ignores { .. } => {
             format!(in alloc; "upstream {name}: ignores since_token; from here on as with --fresh")
         }
@@ -216,7 +282,10 @@ fn fixed_text(report: &Report) -> &'static str {
         Report::EndOfInput => "end of the input",
         Report::Full => "screens: too many, one more is answered 503",
         Report::NoAccept => "screens: none can be taken (too many open files?), for 1 s",
-        Report::NotHeard => "screens: answered 503, no upstream was heard",
+        Report::NotHeard { is_settling: false } => "screens: answered 503, no upstream was heard",
+        Report::NotHeard { is_settling: true } => {
+            "screens: answered 503, what came has not settled (see --settle)"
+        }
         _ => "",
     }
 }

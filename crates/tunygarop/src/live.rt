@@ -126,6 +126,15 @@ impl<'r> Engine<'r> {
         }
     }
 
+    /// Why the first server is not followed; nothing where another one is in its place.
+    fn lack(&self, live: &Live) -> Result<String, AllocError> {
+        let alloc = self.rt.alloc();
+        match live.feed_figures().lack {
+            Some((lack, _)) => format!(in alloc; "{lack}"),
+            None => Ok(String::new(alloc)),
+        }
+    }
+
     /// What is told of the relay in words.
     fn words(
         &self,
@@ -135,6 +144,8 @@ impl<'r> Engine<'r> {
         Ok(Words {
             name: self.followed(live, &devices.link)?,
             failure: self.failure(live)?,
+            first: devices.link.name(self.rt.alloc(), 0)?,
+            lack: self.lack(live)?,
             fault: self.system.file_fault(&devices.store)?,
         })
     }

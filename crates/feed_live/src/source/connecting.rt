@@ -7,9 +7,9 @@ ghost use Rattle.feed_node.specs.States.{published_token};
 use crate::source::rechecking::token_for;
 use crate::source::settling::{begin_shown, followed_of};
 use crate::source::{Reach, Source};
-use crate::times::{CONNECT_TIME, RESPONSE_TIME};
+use crate::times::{CONNECT_TIME, STOOD_LONG};
 use feed_answer::request_text_as;
-use feed_device::{Desk, Link, Report, Why};
+use feed_device::{Desk, Lack, Link, Report, Why};
 use feed_hub::FIRST_PAUSE;
 use feed_node::Mirror;
 use feed_screens::Screens;
@@ -20,7 +20,7 @@ impl Source {
     ghost use Rattle.feed_live.specs.Times.{HeedsTime, KeepsTimes, SameTimes};
     ghost use Rattle.feed_live.specs.Relaying.{StillFollows, SameSource, SameWaiting, WasLeft, GoesOnTo, IsToConnect, RestsAway, servers_of, within_turn};
     ghost use Rattle.feed_live.specs.Upstream.{IsRequestOf, IsRequestWith, asked_with};
-    ghost use Rattle.feed_live.specs.Leaving.{after_loss, connect_time, has_left_quiet, heard_time, is_end, is_past, late_time, newest_time, quiet_at, why_late, why_left, LeavesLate, IsToLeave, IsToMove, IsToStay, IsAtRest, ConnectsTo};
+    ghost use Rattle.feed_live.specs.Leaving.{AsksAgain, LooksAtFirst, after_loss, after_quiet, connect_time, has_left_quiet, heard_time, is_end, is_past, late_time, look_at, newest_time, quiet_at, response_time, stood_long, why_late, why_left, LeavesLate, IsToLeave, IsToMove, IsToStay, IsAtRest, ConnectsTo};
     ghost use Rattle.feed_live.specs.declared.source.Reach.TheVariants.{Away, Connects as Connecting, Reads as Read};
     ghost use Rattle.feed_screens.specs.declared.screens.Screens.{Screens};
 
@@ -33,8 +33,21 @@ impl Source {
             Reach::Connects(since) => Some(since.saturating_add(self.connect_time())),
             _ => match self.body_since {
                 Some(_) => None,
-                None => Some(self.opened.saturating_add(RESPONSE_TIME)),
+                None => Some(self.opened.saturating_add(self.response_time())),
             },
+        }
+    }
+
+    /// How long a server may take to answer: not long where it is the first one, and is only looked
+    /// at, or asked again since its feed ended.
+    fn response_time(&self) -> u64
+        ensures { result ≡ response_time self.now }
+    {
+        let is_first = self.leading.is_first(self.upstream.place());
+        if self.leading.is_look() || self.patience.is_again() && is_first {
+            self.leading.look_time()
+        } else {
+            self.patience.time()
         }
     }
 
@@ -49,11 +62,13 @@ impl Source {
     }
 
     /// How long a server may take to take a connection: not long where another one was left for it
-    /// that did not fail.
+    /// that did not fail, or is followed else, or where it is asked again since its feed ended: its
+    /// machine may be gone.
     fn connect_time(&self) -> u64
-        ensures { result ≡ connect_time self.now.returning }
+        ensures { result ≡ connect_time self.now }
     {
-        if self.returning.has_left_quiet() {
+        let has_left = self.returning.has_left_quiet();
+        if has_left || self.patience.is_again() || self.leading.is_look() {
             CONNECT_TIME / 5
         } else {
             CONNECT_TIME
@@ -116,14 +131,19 @@ impl Source {
         ensures leaves { LeavesLate self.old self.new idle desk.old.time }
         // one that is neither, and not to be left for anything else, is followed on
         ensures stays { IsToStay self.old idle desk.old.time → self.new ≡ self.old }
+        // one that is followed in place of the first one is left for a look at that
+        ensures looks { self.old.reach ≢ Away → why_left self.old idle desk.old.time ≡ None
+            → is_past (look_at self.old self.old.reach) desk.old.time ≡ true
+            → (self.new.reach ≡ Away) × LooksAtFirst self.old self.new desk.old.time }
         // one that has nothing new for long is left, and the next one is asked at once
         ensures quiet { self.old.reach ≢ Away → why_left self.old idle desk.old.time ≡ None
+            → is_past (look_at self.old self.old.reach) desk.old.time ≡ false
             → is_past (quiet_at self.old self.old.reach) desk.old.time ≡ true
             → (self.new.reach ≡ Away) × (self.new.upstream.since ≡ desk.old.time)
-            × (self.new.upstream.place
-            ≡ min (self.old.upstream.place + 1) u64.MAX % self.old.upstream.places) }
+            × (self.new.upstream.place ≡ after_quiet self.old % self.old.upstream.places) }
         // one that was asked for the newest commit again, and sent nothing of it, is asked again
         ensures newest { self.old.reach ≢ Away → why_left self.old idle desk.old.time ≡ None
+            → is_past (look_at self.old self.old.reach) desk.old.time ≡ false
             → is_past (quiet_at self.old self.old.reach) desk.old.time ≡ false
             → is_past (newest_time self.old) desk.old.time ≡ true
             → (self.new.reach ≡ Away) × (self.new.upstream.since ≡ desk.old.time) }
@@ -140,7 +160,9 @@ impl Source {
         match self.leaves(idle, desk.time) {
             Some(why) => self.lost(desk, link, why),
             None => {
-                if self.is_to_leave_quiet(desk.time) {
+                if self.is_to_look(desk.time) {
+                    self.look(link, desk.time);
+                } else if self.is_to_leave_quiet(desk.time) {
                     self.leave_quiet(desk, link);
                 } else if self.is_to_ask_newest(desk.time) {
                     self.ask_newest(link, desk.time);
@@ -222,6 +244,13 @@ impl Source {
                 return;
             }
         };
+        let follows = match self.begin_beside(desk.alloc, coming.is_some()) {
+            Ok(follows) => follows,
+            Err(_) => {
+                self.lost(desk, link, Why::Memory);
+                return;
+            }
+        };
         let request = match self.request(
             desk.alloc,
             followed_of(&coming, self.answers.shown.mirror()),
@@ -251,8 +280,7 @@ impl Source {
         self.settling.begin(desk.time);
         self.figures.ask(self.upstream.place(), desk.time);
         self.opened = desk.time;
-        self.is_at_start = true;
-        self.location = None;
+        self.beginning.begin(follows);
         self.has_more = false;
         self.reach = Reach::Connects(desk.time);
     }
@@ -301,19 +329,82 @@ impl Source {
         ensures heard { self.new.is_heard
             ≡ (self.old.is_heard || is_end why && is_some (heard_time self.old)) }
         ensures returning { self.new.returning ≡ after_loss self.old.body_since self.old.returning }
+        ensures refused { self.new.upstream.refused ≡ self.old.upstream.refused }
     {
         let server = self.upstream.place();
-        let is_reported = self.lose();
+        let back = self.leading.end_look();
+        self.patience.lose(why, back.is_some());
+        let is_reported = self.lose() && back.is_none();
         self.rechecking.lose();
         self.hear_end(why);
         self.report_unsettled(desk);
+        let is_tls = is_reported && self.beginning.is_tls();
         self.leave(link, desk.time);
+        self.leading.fail(server, Lack::Left(why), desk.time);
         self.figures.lose(why, desk.time);
-        self.upstream.lost(self.answers.shown.change(), desk.time);
+        self.ask_next(back, desk.time);
         let pause = self.upstream.due(0).saturating_sub(desk.time);
         forget_after(link, pause);
         desk.reports
             .add_if(is_reported, Report::Lost { server, why, pause });
+        desk.reports.add_if(is_tls, Report::Tls { server });
+    }
+
+    /// The response ended, or the connection broke off. A server whose feed stood open for long did
+    /// not fail: a proxy ends a feed in which nothing happens. It is asked again at once. Any other
+    /// one is lost.
+    pub(crate) fn end<L: Link>(&mut self, desk: &mut Desk, link: &mut L, why: Why)
+        ensures left { WasLeft self.old self.new (L.exchanges link.old) (L.exchanges link.new) }
+        ensures calls { L.calls link.new ≡ L.calls link.old }
+        ensures again { stood_long self.old desk.old.time ≡ true
+            → AsksAgain self.old self.new desk.old.time }
+        ensures next { stood_long self.old desk.old.time ≡ false
+            → GoesOnTo self.old self.new desk.old.time }
+        ensures rests { self.new.has_more ≡ false }
+        ensures heeds { HeedsTime self.old self.new desk.old.time desk.new.time }
+        ensures heard { self.new.is_heard
+            ≡ (self.old.is_heard || is_end why && is_some (heard_time self.old)) }
+    {
+        if self.stood_long(desk.time) {
+            self.end_well(desk, link, why);
+        } else {
+            self.lost(desk, link, why);
+        }
+    }
+
+    /// Whether the feed of the server stood open for long, and nothing of it is yet to settle.
+    fn stood_long(&self, now: u64) -> bool
+        ensures { result ≡ stood_long self.now now }
+    {
+        let Some(since) = self.body_since else {
+            return false;
+        };
+        since.saturating_add(STOOD_LONG) <= now && self.coming.is_none()
+    }
+
+    /// The server is left that did not fail, and is asked again at once.
+    fn end_well<L: Link>(&mut self, desk: &mut Desk, link: &mut L, why: Why)
+        ensures left { WasLeft self.old self.new (L.exchanges link.old) (L.exchanges link.new) }
+        ensures calls { L.calls link.new ≡ L.calls link.old }
+        ensures again { AsksAgain self.old self.new desk.old.time }
+        ensures rests { self.new.has_more ≡ false }
+        ensures heeds { HeedsTime self.old self.new desk.old.time desk.new.time }
+        ensures heard { self.new.is_heard
+            ≡ (self.old.is_heard || is_end why && is_some (heard_time self.old)) }
+    {
+        let server = self.upstream.place();
+        self.rechecking.lose();
+        self.hear_end(why);
+        self.leave(link, desk.time);
+        let is_reported = self.patience.ask_again(desk.time);
+        self.figures.end(why, desk.time);
+        self.upstream.ended(self.answers.shown.change(), desk.time);
+        let lost = Report::Lost {
+            server,
+            why,
+            pause: 0,
+        };
+        desk.reports.add_if(is_reported, lost);
     }
 
     /// A server is lost. Whether that is to be reported: not where it was only asked since another
@@ -361,6 +452,7 @@ impl Source {
         ensures heeds { HeedsTime self.old self.new now now }
         ensures heard { self.new.is_heard ≡ self.old.is_heard }
         ensures returning { self.new.returning ≡ self.old.returning }
+        ensures leading { self.new.leading ≡ self.old.leading }
     {
         link.close();
         if self.body_since.is_some() {
@@ -370,6 +462,7 @@ impl Source {
         // What had not settled is dropped.
         self.coming = None;
         self.rechecking.leave();
+        self.beginning.leave();
         self.body_since = None;
         self.has_more = false;
     }

@@ -162,7 +162,8 @@ impl Source {
     {
         self.settling.begin_line(line);
         self.answers.shown.change().feed(desk.alloc, line)?;
-        self.figures.stage(line, desk.time);
+        let waiting = self.answers.shown.mirror().waiting() as u64;
+        self.figures.stage(waiting, desk.time);
         if screens.relay(desk, self.answers.shown.node()) {
             self.figures.publish(desk.time);
         }

@@ -6,14 +6,18 @@ ghost use Rattle.feed_device.specs.declared.device.Stop.{Stop as Stops};
 ghost use Rattle.feed_node.specs.Mirroring.{MirrorState};
 ghost use Rattle.feed_follow.specs.Following.{Fails};
 ghost use Rattle.feed_follow.specs.Standing.{Standing};
-ghost use Rattle.feed_hub.specs.Upstream.{IsFollowing, IsPushed, counted_on};
+ghost use Rattle.feed_hub.specs.Upstream.{IsFollowing, IsPushed};
 ghost use Rattle.feed_live.specs.Upstream.{wants_memory};
+ghost use Rattle.feed_live.specs.Leading.{is_other_log};
+ghost use Rattle.feed_live.specs.Leaving.{refused_after};
 
+use crate::source::settling::followed_of;
+use crate::source::settling::showing::End;
 use crate::source::{Reach, Source, has_to_wait};
-use feed_device::{Desk, Excerpt, Link, Report, Why};
+use feed_device::{Desk, Excerpt, Lack, Link, Report, Why};
 use feed_figures::Following;
 use feed_follow::{FollowFault, Progress};
-use feed_node::FeedFault;
+use feed_node::{FeedFault, Mirror};
 use feed_screens::Screens;
 use memchr::memchr;
 use std::alloc::{AllocError, Global};
@@ -145,8 +149,8 @@ impl Source {
         let mut buf = [0u8; PIECE];
         match link.read(&mut buf) {
             Ok(0) => {
-                self.settle_ended(desk, link, screens, 0);
-                self.lost(desk, link, Why::Ended);
+                self.settle_ended(desk, link, screens, 0, End::Broken);
+                self.end(desk, link, Why::Ended);
                 false
             }
             Ok(count) => {
@@ -158,8 +162,8 @@ impl Source {
             }
             Err(stop) => {
                 if !has_to_wait(stop) {
-                    self.settle_ended(desk, link, screens, 0);
-                    self.lost(desk, link, Why::Broke);
+                    self.settle_ended(desk, link, screens, 0, End::Broken);
+                    self.end(desk, link, Why::Broke);
                 }
                 false
             }
@@ -231,24 +235,11 @@ impl Source {
         ensures heeds { HeedsTime self.old self.new desk.old.time desk.new.time }
         ensures calls { L.calls link.new ≡ L.calls link.old }
     {
-        if self.is_noted_replay(piece) {
+        if self.is_replay(desk.alloc, piece) {
             self.ignored(desk, link);
             return None;
         }
         self.take_checked(desk, link, screens, piece)
-    }
-
-    /// What a head says of where the feed is, is noted. Whether the piece begins a replay.
-    fn is_noted_replay(&mut self, piece: &[u8]) -> bool
-        ensures same { SameSource self.old self.new }
-        ensures times { SameTimes self.old self.new }
-    {
-        if self.body_since.is_none() {
-            if let Some(location) = location_of(piece) {
-                self.location = Some(Excerpt::of_line(location));
-            }
-        }
-        self.is_replay(piece)
     }
 
     /// Reports more of a fault: where the feed is said to be, or the line that can't be followed.
@@ -259,9 +250,13 @@ impl Source {
             return;
         }
         let server = self.upstream.place();
-        match (fault, self.location) {
+        match (fault, self.beginning.location()) {
             (FollowFault::Status(300..=399), Some(location)) => {
                 desk.reports.add(Report::Moved { server, location });
+            }
+            (FollowFault::Status(404), _) => {
+                let line = Excerpt::of_line(first_line(self.request.as_slice()));
+                desk.reports.add(Report::NotFound { server, line });
             }
             (FollowFault::Feed(_), _) => {
                 let line = Excerpt::of_line(line);
@@ -295,20 +290,22 @@ impl Source {
         ensures calls { L.calls link.new ≡ L.calls link.old }
     {
         let (line, next) = line_or_part(piece);
+        let had_part = self.followed().has_part();
         match self.push(desk, line) {
             Ok(Progress::Head) => Some(next),
             Ok(Progress::Body) => {
                 self.found(desk);
-                self.settling.count_line();
-                self.figures.stage(line, desk.time);
+                self.note_lines(had_part, line, desk.time);
+                self.note_beginning();
                 self.say(desk, screens);
                 Some(next)
             }
             Ok(Progress::Done) => {
                 self.found(desk);
+                self.note_beginning();
                 self.say(desk, screens);
-                self.settle(desk, link, screens, next.len());
-                self.lost(desk, link, Why::Ended);
+                self.settle_ended(desk, link, screens, next.len(), End::Whole);
+                self.end(desk, link, Why::Ended);
                 None
             }
             Ok(Progress::TokenRefused) => {
@@ -322,11 +319,32 @@ impl Source {
                 }
                 self.report_fault(desk, fault, line);
                 self.say(desk, screens);
-                self.settle_ended(desk, link, screens, next.len());
+                self.settle_ended(desk, link, screens, next.len(), End::Broken);
                 self.lost(desk, link, Why::Fault(fault));
                 None
             }
         }
+    }
+
+    /// The mirror that follows the response.
+    fn followed(&self) -> &Mirror
+        ensures { result.now ≡ followed_by self.now }
+    {
+        followed_of(&self.coming, self.answers.shown.mirror())
+    }
+
+    /// A part of a body was taken that ends with a line feed, or all that came. It begins a line of
+    /// the feed where none was begun before, and one is now or it is one.
+    fn note_lines(&mut self, had_part: bool, line: &[u8], now: u64)
+        ensures same { SameSource self.old self.new }
+        ensures times { SameTimes self.old self.new }
+    {
+        let is_begun = self.followed().has_part() || line.trim_ascii_start().first() == Some(&b'{');
+        if !had_part && is_begun {
+            self.settling.count_line();
+        }
+        let waiting = self.followed().waiting() as u64;
+        self.figures.stage(waiting, now);
     }
 
     /// The mirror that follows the response takes bytes of it: what comes afresh is shown to nobody
@@ -358,8 +376,7 @@ impl Source {
         ensures left { WasLeft self.old self.new (L.exchanges link.old) (L.exchanges link.new) }
         ensures at_once { self.new.upstream.since ≡ desk.old.time }
         ensures counts { self.new.upstream.refused ≡ (if is_some self.old.rechecking.again
-            then self.old.upstream.refused
-            else counted_on self.old.upstream.refused self.old.upstream.places) }
+            then self.old.upstream.refused else refused_after self.old desk.old.time) }
         ensures heeds { HeedsTime self.old self.new desk.old.time desk.new.time }
         ensures calls { L.calls link.new ≡ L.calls link.old }
     {
@@ -370,25 +387,46 @@ impl Source {
         let refused = Report::Refused {
             server: self.upstream.place(),
         };
-        desk.reports
-            .add_if(!self.returning.has_left_quiet(), refused);
-        self.without_token(link, desk.time);
+        let is_news = !self.returning.has_left_quiet() && !self.leading.is_look();
+        desk.reports.add_if(is_news, refused);
+        self.without_token(desk, link);
     }
 
-    /// The others are asked with the token, and after that the mirror forgets it.
-    pub(crate) fn without_token<L: Link>(&mut self, link: &mut L, now: u64)
+    /// The others are asked with the token, and after that the mirror forgets it. Where the first
+    /// server refuses it a second time, it is asked for everything.
+    pub(crate) fn without_token<L: Link>(&mut self, desk: &mut Desk, link: &mut L)
         ensures left { WasLeft self.old self.new (L.exchanges link.old) (L.exchanges link.new) }
-        ensures at_once { self.new.upstream.since ≡ now }
+        ensures at_once { self.new.upstream.since ≡ desk.old.time }
         // who refused the token counts, until each one has
-        ensures counts { self.new.upstream.refused
-            ≡ counted_on self.old.upstream.refused self.old.upstream.places }
-        ensures heeds { HeedsTime self.old self.new now now }
+        ensures counts { self.new.upstream.refused ≡ refused_after self.old desk.old.time }
+        // a first server whose log is another one is asked for everything, at once
+        ensures other { is_other_log self.old.leading self.old.upstream.place desk.old.time ≡ true
+            → (self.new.upstream.place ≡ self.old.upstream.place)
+            × (self.new.leading.wants_all ≡ true) }
+        ensures heeds { HeedsTime self.old self.new desk.old.time desk.new.time }
         ensures calls { L.calls link.new ≡ L.calls link.old }
     {
+        let now = desk.time;
+        let server = self.upstream.place();
+        let back = self.leading.end_look();
+        let is_other_log = self.leading.refuse(server, now);
         self.leave(link, now);
         self.figures.refuse_token(now);
         self.figures.change(Following::Away, now);
-        self.upstream.refused(self.answers.shown.change(), now);
+        self.leading.fail(server, Lack::TokenRefused, now);
+        if is_other_log {
+            self.leading.want_all();
+            desk.reports.add(Report::OtherLog { server });
+            self.upstream
+                .turn_to(server, self.answers.shown.change(), now);
+            return;
+        }
+        match back {
+            Some(from) => self
+                .upstream
+                .turn_to(from, self.answers.shown.change(), now),
+            None => self.upstream.refused(self.answers.shown.change(), now),
+        }
     }
 
     /// The server answers with the feed.
@@ -401,18 +439,42 @@ impl Source {
         }
         self.body_since = Some(desk.time);
         self.has_reported_twice = false;
+        let server = self.upstream.place();
         if !self.is_fresh {
-            if !self.rechecking.is_going() && !self.rechecking.is_doubted() {
-                self.upstream.held();
-            }
+            self.find_held(server);
             self.settling.go_on();
         }
         self.figures.find(self.coming.is_some(), desk.time);
-        let found = Report::Found {
-            server: self.upstream.place(),
-            away: desk.time.saturating_sub(self.away_since),
-        };
-        desk.reports.add_if(!self.returning.has_left_quiet(), found);
+        let away = desk.time.saturating_sub(self.away_since);
+        desk.reports
+            .add_if(self.is_found_news(), Report::Found { server, away });
+        let took = desk.time.saturating_sub(self.opened);
+        let is_whole = !self.leading.wants_all(server) && !self.rechecking.is_going();
+        self.patience.answer(took);
+        self.leading.find(desk, server, took, is_whole);
+    }
+
+    /// A server that goes on from our token holds it, unless its newest commit is yet to come
+    /// again.
+    fn find_held(&mut self, server: usize)
+        ensures same { SameSource self.old self.new }
+        ensures times { SameTimes self.old self.new }
+        ensures since { self.new.body_since ≡ self.old.body_since }
+    {
+        if self.rechecking.is_going() {
+            return;
+        }
+        if !self.rechecking.is_doubted() {
+            self.upstream.held();
+        }
+        self.leading.hold(server);
+    }
+
+    /// Whether it is reported that a server answers: not where the one before was left that did not
+    /// fail, nor where this one is followed on.
+    fn is_found_news(&self) -> bool {
+        let has_left = self.returning.has_left_quiet() || self.patience.is_again();
+        !has_left && !self.leading.is_back(self.upstream.place())
     }
 }
 
@@ -427,8 +489,16 @@ pub(crate) fn is_want_of_memory(fault: FollowFault) -> bool
     }
 }
 
+/// The first line of a request, without what ends it.
+fn first_line(request: &[u8]) -> &[u8] {
+    request
+        .split(|byte| *byte == b'\r')
+        .next()
+        .unwrap_or(request)
+}
+
 /// Where a line of a head says that something is: the value of the field `Location`.
-fn location_of(line: &[u8]) -> Option<&[u8]> {
+pub(crate) fn location_of(line: &[u8]) -> Option<&[u8]> {
     let (name, rest) = line.split_at_checked(LOCATION.len())?;
     if !name.eq_ignore_ascii_case(LOCATION) {
         return None;

@@ -3,7 +3,6 @@
 //! Only commits that the relay holds may come before it. Else everything is asked for.
 
 ghost use Rattle.std.specs.Prelude.{◌≡◌, ◌≢◌, ◌<◌, ◌&&◌, [], List, ℕ, length, IfOk, IfSome, None, Some, false, true, not, is_some, is_none};
-ghost use Rattle.feed_hub.specs.Upstream.{counted_on};
 ghost use Rattle.std.specs.Option.{option_copied};
 ghost use Rattle.feed_node.specs.States.{nothing_published};
 ghost use Rattle.feed_laws.specs.Follows.{MayAskWith};
@@ -18,6 +17,7 @@ use feed_device::{Desk, Excerpt, Link, Report};
 use feed_follow::Follower;
 use feed_node::{Limits, Mirror, Node};
 use feed_screens::Screens;
+use feed_tables::{Change, Tables};
 use std::alloc::{AllocError, Global};
 
 /// What a connection brings that asks for the newest commit again, up to that one, or to the first
@@ -31,7 +31,17 @@ pub(crate) struct Again {
 }
 
 impl Again {
-    fn new(alloc: Global, limits: Limits) -> Result<Again, AllocError>
+    /// What was published last of it.
+    pub(crate) fn node(&self) -> &Node {
+        self.mirror.node()
+    }
+
+    /// The token of that.
+    pub(crate) fn token(&self) -> Option<&str> {
+        self.mirror.since()
+    }
+
+    pub(crate) fn new(alloc: Global, limits: Limits) -> Result<Again, AllocError>
         ensures { IfOk result (λ again. again.mirror.node ≡ nothing_published) }
     {
         let mirror = Mirror::new(alloc, few(limits))?;
@@ -43,7 +53,7 @@ impl Again {
 
     /// Bytes came. Whether there was memory to look at them: what else is wrong with them, whoever
     /// follows the connection sees.
-    fn hears(&mut self, alloc: Global, bytes: &[u8]) -> bool {
+    pub(crate) fn hears(&mut self, alloc: Global, bytes: &[u8]) -> bool {
         match self.follower.push(alloc, &mut self.mirror, bytes) {
             Ok(_) => true,
             Err(fault) => !is_want_of_memory(fault),
@@ -71,6 +81,8 @@ pub(crate) struct Rechecking {
     again: Option<Again>,
     /// It came last.
     came_again: bool,
+    /// It came with other changes than those that are kept of it.
+    has_others: bool,
     /// The server does not hold the token before the newest: it is asked with that.
     asks_newest: bool,
     /// A server has another one, and nothing was published since then.
@@ -83,6 +95,7 @@ impl Rechecking {
           is_on = is_on;
           again = None;
           came_again = false;
+          has_others = false;
           asks_newest = false;
           is_doubted = false;
         } }
@@ -91,6 +104,7 @@ impl Rechecking {
             is_on,
             again: None,
             came_again: false,
+            has_others: false,
             asks_newest: false,
             is_doubted: false,
         }
@@ -103,6 +117,7 @@ impl Rechecking {
           is_on = self.old.is_on;
           again = again;
           came_again = false;
+          has_others = false;
           asks_newest = false;
           is_doubted = self.old.is_doubted && not is_fresh;
         } }
@@ -110,6 +125,7 @@ impl Rechecking {
         self.is_doubted = self.is_doubted && !is_fresh;
         self.again = again;
         self.came_again = false;
+        self.has_others = false;
         self.asks_newest = false;
     }
 
@@ -183,6 +199,29 @@ fn what_came(token: Option<&str>, node: &Node) -> Brought
     }
 }
 
+/// Whether what came again has the changes of the newest commit that is kept. More may have come
+/// before it. Where there is no memory to compare, it has them.
+fn has_changes_of(alloc: Global, came: &Node, shown: &Node) -> bool {
+    let (Some(tables), Some(commit)) = (came.published(), shown.newest_commit()) else {
+        return true;
+    };
+    agree(alloc, tables, commit.changes.as_slice()).unwrap_or(true)
+}
+
+/// Whether tables have what some changes leave where they are made to nothing.
+fn agree(alloc: Global, tables: &Tables, changes: &[Change]) -> Result<bool, AllocError> {
+    let mut made = Tables::new(alloc);
+    for change in changes {
+        made.apply(alloc, change)?;
+    }
+    for change in changes {
+        if !tables.agree_at(&made, change) {
+            return Ok(false);
+        }
+    }
+    Ok(true)
+}
+
 /// The token that a connection asks with: the one before the newest, where the newest commit is to
 /// come again and that is held.
 pub(crate) fn token_for<'a>(mirror: &'a Mirror, is_again: bool) -> Option<&'a str>
@@ -204,7 +243,7 @@ pub(crate) fn token_for<'a>(mirror: &'a Mirror, is_again: bool) -> Option<&'a st
 impl Source {
     ghost use Rattle.feed_live.specs.Times.{HeedsTime, SameTimes};
     ghost use Rattle.feed_live.specs.Relaying.{StillFollows, SameSource, WasLeft, within_turn};
-    ghost use Rattle.feed_live.specs.Leaving.{is_past, is_to_recheck, newest_time};
+    ghost use Rattle.feed_live.specs.Leaving.{is_past, is_to_recheck, newest_time, refused_after};
     ghost use Rattle.feed_live.specs.declared.source.Reach.TheVariants.{Away, Reads as Read};
 
     /// What the next connection is to bring, where it asks for the newest commit again.
@@ -215,6 +254,9 @@ impl Source {
     {
         let shown = self.answers.shown.mirror();
         if !self.rechecking.is_on || self.rechecking.asks_newest || self.is_always_fresh() {
+            return Ok(None);
+        }
+        if self.leading.wants_all(self.upstream.place()) {
             return Ok(None);
         }
         if shown.since().is_none() || shown.node().former_token().is_none() {
@@ -240,7 +282,11 @@ impl Source {
             self.rechecking.again = None;
             return false;
         }
-        let came = what_came(again.mirror.since(), self.answers.shown.node());
+        let shown = self.answers.shown.node();
+        let came = what_came(again.mirror.since(), shown);
+        let has_others = matches!(came, Brought::Newest)
+            && !has_changes_of(alloc, again.node(), shown);
+        self.rechecking.has_others = has_others;
         match came {
             Brought::Nothing => false,
             Brought::Newest => {
@@ -265,7 +311,7 @@ impl Source {
         if !self.rechecking.came_again {
             return false;
         }
-        if given_twice(self.answers.shown.mirror()).is_some() {
+        if self.rechecking.has_others || given_twice(self.answers.shown.mirror()).is_some() {
             return true;
         }
         // Where another one was set back, refusals are counted on: else two relays that follow
@@ -273,6 +319,7 @@ impl Source {
         if !self.rechecking.is_doubted {
             self.upstream.held();
         }
+        self.leading.hold(self.upstream.place());
         false
     }
 
@@ -315,8 +362,7 @@ impl Source {
     fn forgot<L: Link>(&mut self, desk: &mut Desk, link: &mut L)
         ensures left { WasLeft self.old self.new (L.exchanges link.old) (L.exchanges link.new) }
         ensures at_once { self.new.upstream.since ≡ desk.old.time }
-        ensures counts { self.new.upstream.refused
-            ≡ counted_on self.old.upstream.refused self.old.upstream.places }
+        ensures counts { self.new.upstream.refused ≡ refused_after self.old desk.old.time }
         ensures heeds { HeedsTime self.old self.new desk.old.time desk.new.time }
         ensures calls { L.calls link.new ≡ L.calls link.old }
     {
@@ -328,7 +374,19 @@ impl Source {
             desk.reports.add_if(!self.rechecking.is_doubted, forgot);
         }
         self.rechecking.is_doubted = true;
-        self.without_token(link, desk.time);
+        self.without_token(desk, link);
+    }
+
+    /// Where the newest commit just came again, the server has what this relay has: the first one
+    /// is followed again.
+    fn find_again(&mut self, desk: &mut Desk)
+        ensures same { SameSource self.old self.new }
+        ensures times { SameTimes self.old self.new }
+        ensures time { desk.new.time ≡ desk.old.time }
+    {
+        if self.rechecking.came_again {
+            self.leading.show(desk, self.upstream.place());
+        }
     }
 
     /// The first line of the piece is taken, or a part of one, unless the server has another commit
@@ -365,6 +423,7 @@ impl Source {
             self.forgot(desk, link);
             return None;
         }
+        self.find_again(desk);
         Some(next)
     }
 }

@@ -3,8 +3,8 @@
 //! token: whoever has something new is followed then. That costs screens nothing. Where nobody has,
 //! the first one is followed for longer, until the next round.
 
-ghost use Rattle.std.specs.Prelude.{◌≡◌, ◌+◌, ◌%◌, min, nat_lt, if◌then◌else◌, not, false, true};
-ghost use Rattle.feed_live.specs.Leaving.{has_left_quiet, is_past, quiet_at, quiet_time};
+ghost use Rattle.std.specs.Prelude.{◌≡◌, ◌+◌, ◌%◌, length, min, nat_eq, not, false, true};
+ghost use Rattle.feed_live.specs.Leaving.{after_quiet, has_left_quiet, is_past, left_next, quiet_at, quiet_time};
 
 use crate::source::{Reach, Source};
 use crate::times::ROUND_TIME;
@@ -56,22 +56,29 @@ impl Returning {
         self.left_quiet = 0;
     }
 
-    /// One of so many servers is left for having nothing new: the first one of a round, where each
-    /// was. Whether that is to be reported: not where it was, and none was lost since then.
-    fn leave_quiet(&mut self, servers: usize) -> bool
+    /// One of so many servers is left for having nothing new. Once each was, a round begins only
+    /// when the first one is left again, which was followed for longer. Whether that is to be
+    /// reported: not where it was, and none was lost since then.
+    fn leave_quiet(&mut self, servers: usize, is_first: bool) -> bool
         ensures reported { result ≡ not self.old.was_reported }
         ensures counts { self.new ≡ record self.old {
           was_reported = true;
-          left_quiet =
-              if nat_lt self.old.left_quiet servers then self.old.left_quiet + 1 else 1;
+          left_quiet = left_next self.old.left_quiet servers is_first;
         } }
     {
-        self.left_quiet = if self.left_quiet < servers {
-            self.left_quiet.saturating_add(1)
-        } else {
-            1
-        };
+        if self.left_quiet < servers {
+            self.left_quiet = self.left_quiet.saturating_add(1);
+        } else if is_first {
+            self.left_quiet = 1;
+        }
         !mem::replace(&mut self.was_reported, true)
+    }
+
+    /// Whether a server is left that has nothing new.
+    pub(crate) fn may_leave(&self) -> bool
+        ensures { result ≡ not (nat_eq self.now.after 0) }
+    {
+        self.after != 0
     }
 
     /// Whether a server was left for having nothing new.
@@ -116,13 +123,7 @@ impl Source {
         let since = self.body_since?;
         let is_first = self.upstream.place() == 0;
         let were_all_left = self.returning.left_quiet >= self.places.len();
-        if self.reach != Reach::Reads || self.coming.is_some() {
-            return None;
-        }
-        if self.places.len() < 2 || self.has_more || !self.rest.is_empty() {
-            return None;
-        }
-        if self.returning.after == 0 {
+        if self.reach != Reach::Reads || !self.may_be_left() || self.is_only_other() {
             return None;
         }
         let time = self.returning.time(is_first, were_all_left);
@@ -146,15 +147,18 @@ impl Source {
         ensures calls { L.calls link.new ≡ L.calls link.old }
         ensures rests { self.new.has_more ≡ false }
         ensures next { self.new.upstream.place
-            ≡ min (self.old.upstream.place + 1) u64.MAX % self.old.upstream.places }
+            ≡ after_quiet self.old % self.old.upstream.places }
         ensures at_once { self.new.upstream.since ≡ desk.old.time }
         ensures pause { self.new.upstream.pause ≡ self.old.upstream.pause }
         ensures counts { (self.new.upstream.failed ≡ self.old.upstream.failed)
             × (self.new.upstream.refused ≡ self.old.upstream.refused) }
+        // each of them was left once, until the first one is left again, which stays for longer
+        ensures round { self.new.returning.left_quiet ≡ left_next self.old.returning.left_quiet
+            (length self.old.places.items) (nat_eq self.old.upstream.place 0) }
         ensures heeds { HeedsTime self.old self.new desk.old.time desk.new.time }
     {
         let server = self.upstream.place();
-        let is_reported = self.returning.leave_quiet(self.places.len());
+        let is_reported = self.returning.leave_quiet(self.places.len(), server == 0);
         desk.reports.add_if(
             is_reported,
             Report::Quiet {
@@ -162,12 +166,10 @@ impl Source {
                 time: self.returning.after,
             },
         );
+        let next = self.after_quiet();
         self.leave(link, desk.time);
         self.figures.change(Following::Away, desk.time);
-        self.upstream.turn_to(
-            server.saturating_add(1),
-            self.answers.shown.change(),
-            desk.time,
-        );
+        self.upstream
+            .turn_to(next, self.answers.shown.change(), desk.time);
     }
 }

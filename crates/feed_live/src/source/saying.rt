@@ -50,6 +50,7 @@ impl Source {
             self.upstream.published();
             self.rechecking.trust();
             self.returning.publish(desk.time);
+            self.leading.publish(desk, self.upstream.place());
         }
     }
 

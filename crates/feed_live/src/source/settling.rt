@@ -10,20 +10,17 @@ ghost use Rattle.feed_device.specs.Links.{shown_so, all_from};
 ghost use Rattle.feed_node.specs.Mirroring.{new_mirror};
 ghost use Rattle.feed_live.specs.Relaying.{following_mirror};
 
-mod showing;
+mod behind;
+pub(crate) mod showing;
 
 use crate::source::Source;
 use crate::source::rate::Rate;
-use crate::source::reading::line_or_part;
 use crate::times::{LONGEST_REPLAY, REPLAY_REPORT};
 use feed_audit::{Difference, difference_of};
 use feed_device::{Desk, Excerpt, Link, Report};
 use feed_figures::Following;
 use feed_node::{Mirror, Node};
 use std::alloc::{AllocError, Global};
-
-/// How long a first line may be to be noted, in bytes.
-const LONGEST_LINE: usize = 4_096;
 
 /// A read of no more bytes may be a line feed in a chunk, which only keeps the connection alive.
 const ALIVE: usize = 8;
@@ -192,7 +189,7 @@ pub(crate) fn begin_shown<L: Link>(link: &mut L, coming: &Option<Mirror>)
 }
 
 /// Whether both publish at the same token.
-fn are_at_one(one: &Node, other: &Node) -> bool
+pub(crate) fn are_at_one(one: &Node, other: &Node) -> bool
     ensures { result ≡ have_one_token one.now.shown other.now.shown }
 {
     match (one.token(), other.token()) {
@@ -202,7 +199,7 @@ fn are_at_one(one: &Node, other: &Node) -> bool
 }
 
 /// Whether both show the same tables.
-fn have_one_state(one: &Node, other: &Node) -> bool
+pub(crate) fn have_one_state(one: &Node, other: &Node) -> bool
     ensures { IsTrue result ↔ HaveOneState one.now.shown other.now.shown }
 {
     match (one.published(), other.published()) {
@@ -242,8 +239,9 @@ impl Source {
         ensures made { IfOk result (λ made. is_some made ≡ is_to_settle self.now) }
     {
         let shown = self.answers.shown.mirror();
-        let is_fresh = self.settling.is_always || shown.since().is_none();
-        if !is_fresh || (self.settling.pause == 0 && !self.settling.is_always) {
+        let wants_all = self.leading.wants_all(self.upstream.place());
+        let is_fresh = shown.since().is_none() && self.settling.pause != 0;
+        if !is_fresh && !self.settling.is_always && !wants_all {
             return Ok(None);
         }
         Ok(Some(Mirror::new(alloc, shown.limits())?))
@@ -328,6 +326,11 @@ impl Source {
         self.coming.is_some() && self.answers.shown.node().token().is_none()
     }
 
+    /// Whether a server answers, and requests wait for what it sends to settle.
+    pub(crate) fn is_settling(&self) -> bool {
+        self.is_first() && self.body_since.is_some()
+    }
+
     /// Reports how much has come, where it has not settled for long.
     fn report_coming(&mut self, desk: &mut Desk)
         ensures same { SameSource self.old self.new }
@@ -403,28 +406,6 @@ impl Source {
             Some(coming) => coming.since().is_some(),
             None => false,
         }
-    }
-
-    /// Whether a piece begins with the first line of a body that was to begin after our token, and
-    /// that line is also the first one of all that a server sent before: then it ignores the token.
-    /// Of a body that comes afresh the first line is noted.
-    pub(crate) fn is_replay(&mut self, piece: &[u8]) -> bool
-        ensures same { SameSource self.old self.new }
-        ensures times { SameTimes self.old self.new }
-    {
-        if !self.is_at_start || piece.first() != Some(&b'{') {
-            return false;
-        }
-        self.is_at_start = false;
-        let (line, _) = line_or_part(piece);
-        if self.coming.is_none() {
-            return self.replayed.as_slice() == line;
-        }
-        self.replayed.clear();
-        if line.len() > LONGEST_LINE || self.replayed.extend_from_slice(line).is_err() {
-            self.replayed.clear();
-        }
-        false
     }
 
     /// Whether screens may go on from what is shown with what came afresh.

@@ -82,7 +82,8 @@ impl Live {
         self.screens.look_again();
         if self.desk.time >= self.limits.hold && !self.is_hold_reported {
             self.is_hold_reported = true;
-            self.desk.reports.add(Report::NotHeard);
+            let is_settling = self.source.is_settling();
+            self.desk.reports.add(Report::NotHeard { is_settling });
         }
     }
 

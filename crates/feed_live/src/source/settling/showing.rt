@@ -3,6 +3,8 @@
 ghost use Rattle.std.specs.Prelude.{◌≡◌, ◌≢◌, ◌⊎◌, ◌&&◌, ◌||◌, ℕ, List, length, None, IfOk, false, true, not, is_some};
 ghost use Rattle.feed_live.specs.Afresh.{goes_on_from, has_come, is_at_shown};
 ghost use Rattle.feed_node.specs.Saved.{restored_from};
+ghost use Rattle.feed_node.specs.States.{published_token};
+ghost use Rattle.feed_live.specs.declared.source.settling.showing.End.TheVariants.{Broken};
 
 use crate::source::{Reach, Source};
 use feed_device::{Desk, Link, Report, Why};
@@ -10,6 +12,7 @@ use feed_figures::Following;
 use feed_node::Mirror;
 use feed_screens::Screens;
 use std::alloc::{AllocError, Global};
+use std::mem;
 
 /// Why a server is left at which a feed settled.
 #[derive(Clone, Copy)]
@@ -18,10 +21,22 @@ pub(crate) enum Leaves {
     Again,
     /// Memory ran out.
     Memory,
+    /// What came is behind what is shown: the next server is asked.
+    Behind,
+}
+
+/// How a connection ends over which something came afresh.
+#[derive(Clone, Copy)]
+pub(crate) enum End {
+    /// Its body is complete: its last chunk came, or all that its length says.
+    Whole,
+    /// It broke off before that, or has a line that can't be followed. So does one whose end can't
+    /// be told from that, since it has neither chunks nor a length.
+    Broken,
 }
 
 /// A mirror that shows the same, and holds its token alone.
-fn alone(alloc: Global, mirror: &Mirror) -> Result<Mirror, AllocError>
+pub(crate) fn alone(alloc: Global, mirror: &Mirror) -> Result<Mirror, AllocError>
     ensures { IfOk result (λ alone.
         alone ≡ restored_from mirror.now.limits mirror.now.node.published) }
 {
@@ -68,6 +83,7 @@ impl Source {
         match self.settle(desk, link, screens, unread) {
             Some(Leaves::Again) => self.ask_again(link, desk.time),
             Some(Leaves::Memory) => self.lost(desk, link, Why::Memory),
+            Some(Leaves::Behind) => self.ask_other(link, desk.time),
             None => {}
         }
     }
@@ -82,23 +98,48 @@ impl Source {
     }
 
     /// The connection ended, or what comes on it can't be followed any more. What came afresh may
-    /// be all, or the server was killed. It counts as all where it ended at the same token the last
-    /// time, too. So many bytes of it are unread.
+    /// be all, or the server was killed, or has a line that is none. So many bytes of it are
+    /// unread. A complete body is shown where nothing is, or where it goes on from what is; else
+    /// once it ended at one token twice. What broke is shown only where nothing is, and once it
+    /// broke at one token twice: it never takes the place of anything.
     pub(crate) fn settle_ended<L: Link>(
         &mut self,
         desk: &mut Desk,
         link: &mut L,
         screens: &mut Screens,
         unread: usize,
+        end: End,
     )
         ensures shows { StillShows
             (counted_within_turn (L.exchanges link.old) self.old unread screens.old)
             self.new (L.exchanges link.new) screens.new }
+        // what is shown stays where the feed broke
+        ensures keeps { end ≡ Broken
+            → is_some (published_token self.old.answers.shown.mirror.node) ≡ true
+            → self.new.answers.shown.mirror ≡ self.old.answers.shown.mirror }
         ensures heeds { HeedsTime self.old self.new desk.old.time desk.new.time }
         ensures calls { L.calls link.new ≡ L.calls link.old }
     {
-        if self.ends_again() {
+        if self.is_to_show_end(end) {
             self.settle(desk, link, screens, unread);
+        }
+    }
+
+    /// Whether what came afresh is to be shown though it has not settled, since the connection
+    /// ends so.
+    fn is_to_show_end(&mut self, end: End) -> bool
+        ensures same { SameSource self.old self.new }
+        ensures times { SameTimes self.old self.new }
+        ensures broken { end ≡ Broken
+            → is_some (published_token self.old.answers.shown.mirror.node) ≡ true
+            → result ≡ false }
+    {
+        let is_first = self.answers.shown.node().token().is_none();
+        let was_whole = mem::replace(&mut self.ended_whole, matches!(end, End::Whole));
+        let is_again = self.ends_again();
+        match end {
+            End::Whole => is_first || self.goes_on() || is_again && was_whole,
+            End::Broken => is_first && is_again,
         }
     }
 
@@ -147,6 +188,9 @@ impl Source {
     {
         if !self.has_published() {
             return None;
+        }
+        if self.is_behind(desk) {
+            return Some(Leaves::Behind);
         }
         self.report_settled(desk);
         if self.is_alone() {
@@ -204,6 +248,7 @@ impl Source {
             server: self.upstream.place(),
             time: desk.time.saturating_sub(self.settling.began),
         });
+        self.leading.show(desk, self.upstream.place());
     }
 
     /// Whether what came afresh is to be shown at its own token alone. Once in a row: a server that

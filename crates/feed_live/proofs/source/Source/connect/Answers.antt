@@ -7,13 +7,19 @@ use Rattle.feed_live.specs.declared.source.Reach.TheVariants.{Connects}
 use Rattle.feed_live.specs.Relaying.{pursuit, WasLeft, MayFollow, following_mirror, servers_of}
 use Rattle.feed_live.specs.Upstream.{IsRequestOf}
 use Rattle.feed_live.proofs.RelayLemmas.{begun_follows, begun_honest, begins_in_log, one_more_honest}
-use Rattle.feed_live.proofs.SourceLemmas.{begins_so, fails_so, left_still}
+use Rattle.feed_live.proofs.SourceLemmas.{begins_so, fails_so, left_still, never_heard}
 use Rattle.feed_live.proofs.source.Source.connect.Goals as goal
 
 pub returns-then-is_err-clause-follows : goal.returns-then-is_err-clause-follows
 returns-then-is_err-clause-follows g c =
     let failed = fails_so c.connect-begun.result _ _ c.place.result (sym c.is_err.ensures.value ∙ c.if-is_err.true) c.connect-begun.ensures.begins in
     left_still (subst (λ e. WasLeft c.args.self.now c.lost-then-is_err.new.self e (g.L.Link.exchanges c.lost-then-is_err.new.link)) failed c.lost-then-is_err.ensures.left)
+
+pub returns-then-is_err-clause-refused : goal.returns-then-is_err-clause-refused
+returns-then-is_err-clause-refused g c = c.lost-then-is_err.ensures.refused
+
+pub returns-then-is_err-clause-heard : goal.returns-then-is_err-clause-heard
+returns-then-is_err-clause-heard g c = λ none. c.lost-then-is_err.ensures.heard ∙ never_heard c.args.self.now c.why_not.result none
 
 pub returns-clause-follows : goal.returns-clause-follows
 returns-clause-follows g c =

@@ -17,7 +17,7 @@ returns-in-Ok-eq0-clause-follows g c =
             reads_follows limits log servers (is_none c.args.self.now.coming) c.args.self.now.reach c.args.self.now.request.items (take c.in-Ok-eq0.field-0 c.read.new.buf) _ _ c.args.self.now.upstream.follower (followed_by c.args.self.now) c.in-Ok-eq0.ensures.bytes (follows.1.1 (known_before _ _ _ c.in-Ok-eq0.ensures.bytes known)),
       ),
     ))) in
-    (c.lost.ensures.left.servers ∙ shows.0, with_left limits log servers c.lost.ensures.left c.lost.new.self.rest.items shows.1)
+    (c.end.ensures.left.servers ∙ shows.0, with_left limits log servers c.end.ensures.left c.end.new.self.rest.items shows.1)
 
 pub returns-in-Ok-clause-follows : goal.returns-in-Ok-clause-follows
 returns-in-Ok-clause-follows g c =
@@ -36,4 +36,4 @@ returns-then-not-has_to_wait-clause-follows g c =
     λ reads none limits log servers contest sockets follows.
     let shows = c.settle_ended-then-not-has_to_wait.ensures.shows limits log servers contest sockets (to_show limits log servers c.args.self.now c.args.screens.now _ [] reads
     (subst (λ e. FollowsServers limits log servers contest (within_turn e c.args.self.now [] c.args.screens.now) sockets) (sym c.in-Err.ensures.bytes) follows)) in
-    (c.lost-then-not-has_to_wait.ensures.left.servers ∙ shows.0, with_left limits log servers c.lost-then-not-has_to_wait.ensures.left c.lost-then-not-has_to_wait.new.self.rest.items shows.1)
+    (c.end-then-not-has_to_wait.ensures.left.servers ∙ shows.0, with_left limits log servers c.end-then-not-has_to_wait.ensures.left c.end-then-not-has_to_wait.new.self.rest.items shows.1)

@@ -29,8 +29,22 @@ returns-in-Some-Again-clause-follows g c =
     let shows = c.settle.ensures.shows limits log servers contest sockets (to_show_of limits log servers c.args.self.now c.args.screens.now many (to_show limits log servers c.args.self.now c.args.screens.now _ c.args.self.now.rest.items reads follows)) in
     (c.ask_again.ensures.left.servers ∙ shows.0, with_left limits log servers c.ask_again.ensures.left c.ask_again.new.self.rest.items shows.1)
 
+pub returns-in-Some-Behind-clause-follows : goal.returns-in-Some-Behind-clause-follows
+returns-in-Some-Behind-clause-follows g c =
+    let reads : c.args.self.now.reach ≡ Reads = search rules in
+    let many : length c.args.self.now.rest.items ≡ c.len-unread.result = search rules in
+    λ limits log servers contest sockets follows.
+    let shows = c.settle.ensures.shows limits log servers contest sockets (to_show_of limits log servers c.args.self.now c.args.screens.now many (to_show limits log servers c.args.self.now c.args.screens.now _ c.args.self.now.rest.items reads follows)) in
+    (c.ask_other.ensures.left.servers ∙ shows.0, with_left limits log servers c.ask_other.ensures.left c.ask_other.new.self.rest.items shows.1)
+
 pub returns-in-Some-Again-clause-stays : goal.returns-in-Some-Again-clause-stays
 returns-in-Some-Again-clause-stays g c =
+    let reads : c.args.self.now.reach ≡ Reads = search rules in
+    let many : length c.args.self.now.rest.items ≡ c.len-unread.result = search rules in
+    λ not. absurd (not reads)
+
+pub returns-in-Some-Behind-clause-stays : goal.returns-in-Some-Behind-clause-stays
+returns-in-Some-Behind-clause-stays g c =
     let reads : c.args.self.now.reach ≡ Reads = search rules in
     let many : length c.args.self.now.rest.items ≡ c.len-unread.result = search rules in
     λ not. absurd (not reads)
@@ -69,6 +83,9 @@ returns-then-not-is_due_to_settle-clause-heeds g c = heeds_then (heeds_same _ c.
 pub returns-in-Some-Again-clause-heeds : goal.returns-in-Some-Again-clause-heeds
 returns-in-Some-Again-clause-heeds g c = heeds_then c.ask_again.ensures.heeds c.settle.ensures.heeds
 
+pub returns-in-Some-Behind-clause-heeds : goal.returns-in-Some-Behind-clause-heeds
+returns-in-Some-Behind-clause-heeds g c = heeds_then c.ask_other.ensures.heeds c.settle.ensures.heeds
+
 pub returns-in-Some-Memory-clause-heeds : goal.returns-in-Some-Memory-clause-heeds
 returns-in-Some-Memory-clause-heeds g c = heeds_then c.lost.ensures.heeds c.settle.ensures.heeds
 
@@ -78,11 +95,17 @@ returns-in-None-clause-heeds g c = c.settle.ensures.heeds
 pub returns-in-Some-Again-clause-calls : goal.returns-in-Some-Again-clause-calls
 returns-in-Some-Again-clause-calls g c = c.ask_again.ensures.calls ∙ c.settle.ensures.calls
 
+pub returns-in-Some-Behind-clause-calls : goal.returns-in-Some-Behind-clause-calls
+returns-in-Some-Behind-clause-calls g c = c.ask_other.ensures.calls ∙ c.settle.ensures.calls
+
 pub returns-in-Some-Memory-clause-calls : goal.returns-in-Some-Memory-clause-calls
 returns-in-Some-Memory-clause-calls g c = c.lost.ensures.calls ∙ c.settle.ensures.calls
 
 pub returns-in-Some-Again-clause-leaves : goal.returns-in-Some-Again-clause-leaves
 returns-in-Some-Again-clause-leaves g c = leaves_come c.args.self.now c.ask_again.new.self _ c.is_due_to_settle.ensures c.if-not-is_due_to_settle.false
+
+pub returns-in-Some-Behind-clause-leaves : goal.returns-in-Some-Behind-clause-leaves
+returns-in-Some-Behind-clause-leaves g c = leaves_come c.args.self.now c.ask_other.new.self _ c.is_due_to_settle.ensures c.if-not-is_due_to_settle.false
 
 pub returns-in-Some-Memory-clause-leaves : goal.returns-in-Some-Memory-clause-leaves
 returns-in-Some-Memory-clause-leaves g c = leaves_come c.args.self.now c.lost.new.self _ c.is_due_to_settle.ensures c.if-not-is_due_to_settle.false

@@ -1,6 +1,6 @@
 use Rattle.std.proofs.Common.{◌∙◌, refl}
 use Rattle.feed_live.proofs.RelayLemmas.{same_shows, with_left, with_same}
-use Rattle.feed_live.proofs.TimesLemmas.{heeds_then, heeds_same}
+use Rattle.feed_live.proofs.TimesLemmas.{heeds_then, heeds_same, heeds_until}
 use Rattle.feed_live.proofs.source.Source.take_checked.Goals as goal
 
 pub returns-then-brings_another-clause-stops : goal.returns-then-brings_another-clause-stops
@@ -29,13 +29,13 @@ returns-then-differs_again-clause-stops g c =
 pub returns-clause-goes_on : goal.returns-clause-goes_on
 returns-clause-goes_on g c =
     let took = c.in-Some.ensures.goes_on in (
-      c.differs_again.ensures.same.reach ∙ took.0 ∙ c.brings_another.ensures.same.reach,
-      c.differs_again.ensures.same.rest ∙ took.1 ∙ c.brings_another.ensures.same.rest,
+      c.find_again.ensures.same.reach ∙ c.differs_again.ensures.same.reach ∙ took.0 ∙ c.brings_another.ensures.same.reach,
+      c.find_again.ensures.same.rest ∙ c.differs_again.ensures.same.rest ∙ took.1 ∙ c.brings_another.ensures.same.rest,
       λ reads limits log servers contest sockets follows.
           let after = took.2 (c.brings_another.ensures.same.reach ∙ reads) limits log servers contest sockets
           (c.brings_another.ensures.same.servers ∙ follows.0, with_same limits log servers c.brings_another.ensures.same _ c.args.piece.now c.args.piece.now refl follows.1) in (
-            c.differs_again.ensures.same.servers ∙ after.0,
-            with_same limits log servers c.differs_again.ensures.same _ _ _ refl after.1,
+            c.find_again.ensures.same.servers ∙ c.differs_again.ensures.same.servers ∙ after.0,
+            with_same limits log servers c.find_again.ensures.same _ _ _ refl (with_same limits log servers c.differs_again.ensures.same _ _ _ refl after.1),
           ),
     )
 
@@ -61,7 +61,7 @@ pub returns-then-differs_again-clause-heeds : goal.returns-then-differs_again-cl
 returns-then-differs_again-clause-heeds g c = heeds_then c.forgot-then-differs_again.ensures.heeds (heeds_then (heeds_same _ c.differs_again.ensures.times) (heeds_then c.take_line.ensures.heeds (heeds_same _ c.brings_another.ensures.times)))
 
 pub returns-clause-heeds : goal.returns-clause-heeds
-returns-clause-heeds g c = heeds_then (heeds_same _ c.differs_again.ensures.times) (heeds_then c.take_line.ensures.heeds (heeds_same _ c.brings_another.ensures.times))
+returns-clause-heeds g c = heeds_then (heeds_until c.find_again.ensures.time (heeds_same _ c.find_again.ensures.times)) (heeds_then (heeds_same _ c.differs_again.ensures.times) (heeds_then c.take_line.ensures.heeds (heeds_same _ c.brings_another.ensures.times)))
 
 pub returns-in_default-clause-heeds : goal.returns-in_default-clause-heeds
 returns-in_default-clause-heeds g c = heeds_then c.take_line.ensures.heeds (heeds_same _ c.brings_another.ensures.times)

@@ -10,7 +10,7 @@ returns-clause-serves g c =
       ends = (refl, refl);
       feeds = refl;
       source = record { servers = refl; shown = c.serve_more.ensures.mirrors.shown; blank = c.serve_more.ensures.mirrors.blank; coming = refl; follower = refl; reach = refl; request = refl; rest = refl; opened = refl };
-      waiting = record { settling = refl; rechecking = refl; upstream = refl; reach = refl; returning = refl; opened = refl; body_since = refl };
+      waiting = record { leading = refl; patience = refl; settling = refl; rechecking = refl; upstream = refl; reach = refl; returning = refl; opened = refl; body_since = refl };
       heard = refl;
       epoch = refl;
       rests = λ rest. rest;

@@ -68,7 +68,7 @@ returns g c =
       begins = λ no_feed goes_on is.
           let apart = c.take_input.ensures.apart (said.feeds ∙ no_feed) in
           let time = apart.1 ∙ ap (λ d. d.time) (c.say_more.ensures.desk ∙ c.note.ensures.desk ∙ c.begin.ensures) in
-          begins_same c.args.self.now.source c.take_input.new.self.source c.follow.new.self.source c.next.new.self.source (ap (λ s. s.upstream) apart.0 ∙ said.waiting.upstream) served.waiting.upstream time
+          begins_same c.args.self.now.source c.take_input.new.self.source c.follow.new.self.source c.next.new.self.source (ap (λ s. s.upstream) apart.0 ∙ said.waiting.upstream) (ap (λ s. s.leading) apart.0 ∙ said.waiting.leading) served.waiting.upstream time
           (c.follow.ensures.begins (sym (served.ends.1 ∙ c.follow.ensures.ends.1) ∙ goes_on)
           (subst (λ t. IsToConnect c.take_input.new.self.source t) (sym time) (subst (λ s. IsToConnect s c.args.now) (sym apart.0) (to_connect_same said.waiting said.source is))));
       leaves = λ no_feed goes_on some is.
