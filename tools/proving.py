@@ -6,6 +6,7 @@ now stand below it, by this toolchain. A file `made_of` beside it has the sum of
 is current, and gets one, if no source was written since the gate began."""
 import fcntl
 import os
+import shutil
 import sys
 from contextlib import contextmanager, suppress
 from functools import cache
@@ -50,14 +51,15 @@ class Crate:
         files = [it.stat() for it in [*self.sources(), *folders] if it.exists()]
         return max(time for it in files for time in (it.st_mtime, it.st_ctime))
 
-    def words(self, libraries):
-        """The words that name the crate, its sources, the libraries that it stands on, and the logic."""
+    def call(self, verb, libraries, jobs=1):
+        """The prover's call for the crate: its name, its sources, the libraries that it stands on, and the logic."""
         at = {it: libraries.folder(it) for it in self.lower}
-        words = ["--crate-name", self.name, self.root, "-L", f"dependency={KIT}/rlibs"]
+        words = [f"{KIT}/bin/rattle", verb, "--crate-name", self.name, self.root, "-L", f"dependency={KIT}/rlibs"]
         for it in dict.fromkeys(["std", *self.uses]):
             words += ["--extern", f"{it}={at.get(it, f'{KIT}/rlibs')}/{it}.rlib"]
         words += [word for it in at.values() for word in ("-L", f"dependency={it}")]
-        return [*words, "--antt-project", f"{KIT}/rattle/logic/antt-project.json", "--logic-built", f"{KIT}/logic_built"]
+        words += ["--antt-project", f"{KIT}/rattle/logic/antt-project.json", "--logic-built", f"{KIT}/logic_built"]
+        return [*words, "--jobs", str(jobs)]
 
 
 class Libraries:
@@ -159,15 +161,26 @@ def kit_sum():
 @contextmanager
 def alone(crates):
     """Waits until no command of the toolchain, and no other tools/prove, works in the folders of these crates."""
-    held = [os.open(it.folder, os.O_RDONLY) for it in sorted(crates, key=lambda it: it.folder)]
+    folders = sorted(it.folder for it in crates)
+    held = [os.open(it, os.O_RDONLY) for it in folders]
     try:
-        for crate, it in zip(sorted(crates, key=lambda it: it.folder), held):
+        for folder, it in zip(folders, held):
             try:
                 fcntl.flock(it, fcntl.LOCK_EX | fcntl.LOCK_NB)
             except BlockingIOError:
-                print(f"waiting for what works in {crate.folder}", file=sys.stderr, flush=True)
+                print(f"waiting for what works in {folder}", file=sys.stderr, flush=True)
                 fcntl.flock(it, fcntl.LOCK_EX)
         yield
     finally:
         for it in held:
             os.close(it)
+
+
+def forget_gate(uses):
+    """Removes the libraries that an earlier gate left: the toolchain's gate puts back what it finds, in the place of what it
+    makes. Those of 'rt check' have a stamp, and stay."""
+    crates = [Crate(name, uses) for name in uses]
+    with alone(crates):
+        for it in crates:
+            if not (it.of_gate / "stamp").exists():
+                shutil.rmtree(it.of_gate, ignore_errors=True)

@@ -9,6 +9,8 @@ import errno
 import fcntl
 import os
 import re
+import signal
+import subprocess
 import sys
 import tempfile
 import time
@@ -21,6 +23,10 @@ SLOTS = "TUNYGAROP_SLOTS"
 # As much memory as is left to the toolchain's gate, as a heavy command takes beside it, and as the proof of a crate
 # takes, in bytes.
 OF_GATE, OF_ONE, OF_PROOF = 8_000_000_000, 2_500_000_000, 3_500_000_000
+
+# As much memory, in bytes, as lets the toolchain's gate plan by itself: by its own reckoning its two largest crates, of
+# 11.7 and 10.4 GB, fit side by side.
+AMPLE = 30_000_000_000
 
 
 def processors():
@@ -68,10 +74,14 @@ def free_slot(folder):
 @contextmanager
 def shared_slots(is_beside):
     """Slots that are shared by what is started from now on, beside the toolchain's gate or without it."""
-    with tempfile.TemporaryDirectory(prefix="slots-") as folder:
+    with tempfile.TemporaryDirectory(prefix="slots-") as room:
+        folder = Path(room) / "slots"
+        folder.mkdir()
         for number in range(slots(is_beside)):
-            (Path(folder) / str(number)).touch()
-        os.environ[SLOTS] = folder
+            (folder / str(number)).touch()
+        if is_beside:
+            gate_of(folder).touch()
+        os.environ[SLOTS] = str(folder)
         try:
             yield
         finally:
@@ -95,6 +105,63 @@ def lanes():
 def memory():
     """The memory of the machine, in bytes."""
     return int(re.search(r"^MemTotal: +(\d+) kB$", Path("/proc/meminfo").read_text(), re.M)[1]) * 1024
+
+
+# ---- limits
+
+
+# How long a command is waited for by the clock, in seconds, and after how many it is looked at. The clock stands still while
+# the gate runs: what has the lowest priority may wait for a processor until then.
+FAR, OFTEN = 3_600, 5
+
+
+def gate_of(folder):
+    """The file that is there while the toolchain's gate runs beside who shares these slots."""
+    return folder.with_name("gate")
+
+
+def gate_has_ended():
+    """From now on the clock of those that share the slots goes on."""
+    gate_of(Path(os.environ[SLOTS])).unlink(missing_ok=True)
+
+
+def waits():
+    """Yields again and again, for who then waits a little, until that has been too long."""
+    folder, waited, then = os.environ.get(SLOTS), 0.0, time.monotonic()
+    while waited < FAR:
+        yield
+        now = time.monotonic()
+        waited += 0 if folder and gate_of(Path(folder)).exists() else now - then
+        then = now
+
+
+def within(seconds, words):
+    """The words of a command that is stopped after so many seconds of a processor, as is each that it starts."""
+    return ["/bin/sh", "-c", 'ulimit -S -t "$0"; exec "$@"', str(seconds), *map(str, words)]
+
+
+def limited(words, seconds, *, given="", **how):
+    """As subprocess.run, for a command that is given a text and may take so many seconds of a processor: a limit by the clock
+    would say how much else runs. TimeoutExpired says that it took more, or far too long by the clock."""
+    with tempfile.TemporaryFile("w+") as file:
+        file.write(given)
+        file.seek(0)
+        with subprocess.Popen(within(seconds, words), stdin=file, **how) as ran:
+            try:
+                told = communicated(ran)
+            finally:
+                ran.kill()
+    if told is None or ran.returncode == -signal.SIGXCPU:
+        raise subprocess.TimeoutExpired(words, seconds)
+    return subprocess.CompletedProcess(words, ran.returncode, *told)
+
+
+def communicated(ran):
+    """What a command prints until its end, or nothing if that is waited for too long."""
+    for _ in waits():
+        with suppress(subprocess.TimeoutExpired):
+            return ran.communicate(timeout=OFTEN)
+    return None
 
 
 # ---- priority
