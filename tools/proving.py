@@ -108,7 +108,9 @@ class Libraries:
         self.found[name] = folder
 
     def missing(self, names):
-        return [it for it in names if not any(is_there(self.crates[it], at) for at in (self.crates[it].own, self.crates[it].of_gate))]
+        """Those of these crates that have no library at all."""
+        crates = [self.crates[it] for it in names]
+        return [it.name for it in crates if not any(is_there(it, at) for at in (it.own, it.of_gate))]
 
     def needed(self, names, tool):
         """Ends the tool if a library below these crates is missing, or is not current."""
@@ -118,7 +120,7 @@ class Libraries:
             sys.exit(f"{tool}: {lacks(lacking)}")
         stale = [it for it in below if not self.current(it)]
         if stale:
-            sys.exit(f"{tool}: not of these sources: the libraries of {' '.join(stale)}; tools/prove {' '.join(names)} makes them")
+            sys.exit(f"{tool}: older than what they are made of: {' '.join(stale)}; tools/prove {' '.join(names)} makes them")
 
 
 def lacks(names):
@@ -176,11 +178,10 @@ def alone(crates):
             os.close(it)
 
 
-def forget_gate(uses):
-    """Removes the libraries that an earlier gate left: the toolchain's gate puts back what it finds, in the place of what it
-    makes. Those of 'rt check' have a stamp, and stay."""
+def forget_libraries(uses):
+    """Removes the libraries of out/rlib before a gate: the toolchain's gate puts back what it finds there, in the place of
+    what it makes. 'rt check' makes its own again, of what it kept."""
     crates = [Crate(name, uses) for name in uses]
     with alone(crates):
         for it in crates:
-            if not (it.of_gate / "stamp").exists():
-                shutil.rmtree(it.of_gate, ignore_errors=True)
+            shutil.rmtree(it.of_gate, ignore_errors=True)
