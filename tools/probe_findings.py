@@ -19,12 +19,14 @@ from probe_feed import (
     shorter_pause,
     token_like,
 )
-from probe_links import HEAD, TLS_GUIDE, ask, is_coded, is_page, target_after, tls_version
+from probe_links import HEAD, MOST_FEED, TLS_GUIDE, ask, is_coded, is_page, target_after, tls_version
 
 # The statuses: it fits as it is, with options, not; that can't be said; and no connection could be made.
 FITS, WITH_OPTIONS, NOT, UNSEEN, NO_CONNECTION = range(5)
 # How long a screen waits by default before it is answered 503, in seconds; and what that may be at most.
 HOLD, MOST_HOLD = 10, 3_600
+# How much later than it could a relay may show a feed, on a busy machine, in seconds.
+LATE = 5
 # As long as proxies let a connection be silent by default, in seconds, and what finds one that cuts it then.
 SILENCE, LONG_LOOK = 60, 130
 # Where servers of the field have their contests.
@@ -94,6 +96,10 @@ def see_reached(findings, passage, asker):
     if passage.answered > HEAD:
         findings.problem("reached", text, f"`live` leaves a server that has not answered after {HEAD} s: mend the server")
         return False
+    if answer.interim:
+        means = "`live` takes that for its answer, and leaves it: switch that off (Early Hints, say), in proxies, too"
+        findings.problem("reached", f"{text}, and status {answer.interim[0]} before it", means)
+        return False
     if answer.status == 200:
         findings.ok("reached", text)
         return True
@@ -115,21 +121,17 @@ def see_addresses(findings, feed):
 
 def see_no_answer(findings, passage, where):
     """Says why a connection brought no response."""
-    version = tls_version(passage.feed)
+    version = tls_version(passage.feed, passage.response.begins)
     if version:
-        findings.problem("reached", f"{where}: it speaks {version} there, and no plain HTTP", BY_NGINX)
+        findings.problem("reached", f"{where}: that port speaks {version}, and no plain HTTP", BY_NGINX)
     elif passage.response.fault:
         begin = printable(passage.response.begins, 60)
         findings.problem("reached", f"{where}: what answers speaks no HTTP: {begin}", "look at the port")
-    elif passage.end:
-        findings.problem(
-            "reached",
-            f"{where}: it took the connection, and closed it without an answer to GET {passage.feed.path()}",
-            "look at that server's log",
-        )
     else:
-        means = f"`live` leaves a server after {HEAD} s without an answer, so it shows nothing: mend the server"
-        findings.problem("reached", f"{where}: no answer within {passage.now():.0f} s to GET {passage.feed.path()}", means)
+        how = f"the connection ended after {passage.ended:.1f} s" if passage.end else f"no answer within {passage.now():.0f} s"
+        leaves = f"; `live` leaves a server after {HEAD} s without one" if passage.now() > HEAD else ""
+        means = f"look at that server's log{leaves}"
+        findings.problem("reached", f"{where}: {how}, without an answer to GET {passage.feed.path()}", means)
 
 
 def see_status(findings, passage, asker, text):
@@ -220,10 +222,10 @@ def see_format(findings, feed):
     elif feed.notes and not feed.fault:
         findings.ok("format", f"2023-06: {count}, {keepalives}, {feed.size:,} bytes")
     wrong, first = feed.how_many("ids that are not the object's")
-    if wrong:
+    if wrong and not feed.is_old():
         means = "screens are sent the line as it is: those that look at the object's own id may miss it"
         findings.note("ids", f"{plural(wrong, 'line')} under another id than the object's, first at line {first:,}", means)
-    elif feed.notes:
+    elif feed.notes and not wrong:
         findings.ok("ids", "each object is under its own id")
 
 
@@ -263,7 +265,7 @@ def see_start(findings, feed, trial):
     first, settled = trial.first(), trial.report(r"all of it came, in (\d+) ms")
     arrivals = [(at - first.first, count) for at, count in first.arrivals]
     if not settled:
-        see_unsettled(findings, feed, arrivals, first)
+        see_unsettled(findings, feed, arrivals, trial)
         return
     shown = int(settled[1]) / 1000
     kind = feed.kind(len(feed.notes) if first.end == "whole" else lines_by(feed, arrivals, shown))
@@ -278,7 +280,7 @@ def see_start(findings, feed, trial):
         findings.ok("settle", f"{shown:.1f} s after its first byte a relay shows it; longest pause before: {longest:.1f} s")
         return
     when, most, pause = burst
-    need = longer_pause(arrivals, pause, first.latest - first.first + SETTLE)
+    need = longer_pause(arrivals, pause, (first.ended or first.now()) - first.first)
     findings.note(
         "settle",
         f"it paused for {pause:.1f} s, and then went on: {most:,} bytes in the second after {when:.1f} s",
@@ -287,15 +289,18 @@ def see_start(findings, feed, trial):
     )
 
 
-def see_unsettled(findings, feed, arrivals, first):
+def see_unsettled(findings, feed, arrivals, trial):
     """A feed that a relay did not show by itself."""
+    first = trial.first()
     read = first.now() - first.first
     until = (first.ended or first.now()) - first.first
     rate = sum(count for at, count in arrivals if at > until / 2) / max(until / 2, 0.001)
     findings.ok("start", feed.kind(len(feed.notes)))
     came = f"it has not settled within {read:.0f} s: {feed.size:,} bytes came, of late {rate:,.0f} a second"
-    shorter = shorter_pause(arrivals, until)
-    if shorter and not first.end:
+    shown, shorter = settles_at(arrivals, SETTLE), shorter_pause(arrivals, until)
+    if shown is not None and shown + LATE < until:
+        findings.not_seen("settle", f"`live` doesn't follow what came, and reports: {'; '.join(trial.reports()[-2:])}")
+    elif shorter and not first.end:
         pause, shown = shorter
         findings.note(
             "settle",
@@ -304,7 +309,7 @@ def see_unsettled(findings, feed, arrivals, first):
             f"With --settle {pause * 1000:.0f} it would have been shown after {shown:.1f} s",
             settle=int(pause * 1000),
         )
-    elif first.end:
+    elif first.end in ("closed", "reset"):
         means = "a relay drops what came on a connection that breaks off, unless it ends twice at the same token: see `quiet`"
         findings.problem("settle", f"the connection ended after {first.ended:.1f} s, before it had settled", means)
     else:
@@ -341,7 +346,7 @@ SINCE = {
     ),
     "nothing": ("fresh", ("a relay that asks with this token lacks what came after it, for good",)),
     "other": ("fresh", ("it can't be said what a relay makes of that",)),
-    "refused": ("note", ("it holds newer tokens alone: a relay that was away for longer asks for everything. Nothing is lost",)),
+    "refused": ("note", ("a relay that comes back with such a token asks for everything: nothing is lost",)),
 }
 
 
@@ -412,19 +417,16 @@ def see_newest(findings, _feed, asked, kind, text, _passage):
 def see_unheld(findings, _feed, asked, kind, text, _passage):
     said = f"{asked}, a token that it can't have given"
     if kind == "refused":
-        findings.ok("unheld", f"{said}: {text}: a server that was set back is noticed")
-    elif kind == "nothing":
-        findings.note(
-            "unheld",
-            f"{said}: {text}",
-            "if the server is set back, a relay that doesn't recheck waits at its old state: never give --no-recheck.",
-            "Start relays with --new for each new feed, and watch the age of the last commit",
-        )
+        findings.ok("unheld", f"{said}: {text}, so a server that was set back is noticed")
+    elif kind == "start":
+        means = "a relay with a token of an earlier feed may take that for the rest of its own"
+        findings.note("unheld", f"{said}: {text}", f"{means}: start with --new for each new feed")
     else:
         findings.note(
             "unheld",
-            f"{said}: {text}",
-            "a relay with a token of an earlier feed takes that for the rest of its own: start with --new for each new feed",
+            f"{said}: it takes that token ({text})",
+            "if the server is set back, a relay may wait at its old state: never give --no-recheck,",
+            "start with --new for each new feed, and watch the age of the last commit",
         )
 
 
@@ -435,6 +437,9 @@ def see_quiet(findings, passage, seconds):
     """Whether a quiet connection stays open, and how often something comes on it."""
     read = (passage.ended or passage.now()) - passage.answered
     last = passage.latest or passage.answered
+    if passage.end == "long":
+        findings.not_seen("quiet", f"over {MOST_FEED >> 20} MiB came")
+        return
     if passage.end == "whole":
         means = "a feed doesn't end: `live` asks again, with pauses of up to 30 s"
         findings.note("quiet", f"the body ended in order after {read:.1f} s", means)
@@ -483,11 +488,12 @@ def see_size(findings, feed, trial):
 
 def see_screen(findings, trial):
     """When a relay served a first screen."""
+    given = f", with {' '.join(trial.options)}" if trial.options else ""
     if trial.screened is None:
-        if findings.worst == FITS and not findings.unseen and "settle" not in findings.options:
-            findings.not_seen("screen", "none was served meanwhile", *trial.reports()[-3:])
+        if findings.worst == FITS and not findings.unseen:
+            findings.not_seen("screen", f"none was served meanwhile{given}", *trial.reports()[-3:])
         return
-    findings.ok("screen", f"a first screen was served {trial.screened:.1f} s after the relay's start")
+    findings.ok("screen", f"a first screen was served {trial.screened:.1f} s after the relay asked{given}")
     if trial.screened > HOLD:
         hold = min(MOST_HOLD, int(trial.screened * 2) + 1)
         means = f"screens are answered 503 after {HOLD} s at a first start. Those that don't ask again need --hold {hold}"

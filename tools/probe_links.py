@@ -15,8 +15,8 @@ from pathlib import Path
 
 # How long `live` waits for a connection, and for the head of a response, in seconds.
 CONNECT, HEAD = 10, 20
-# How long a short request waits for a first line, and for a further one, in seconds; and what it reads at most.
-FIRST_LINE, NEXT_LINE, MOST_ANSWER = 5, 1, 4 << 20
+# How long a short request waits for a first line, for a further one, and in all, in seconds; and what it reads at most.
+FIRST_LINE, NEXT_LINE, ALL_LINES, MOST_ANSWER = 5, 1, 10, 4 << 20
 # The most bytes of a feed that are kept.
 MOST_FEED = 512 << 20
 # How many bytes of what is no feed are read, to show some; and for how long, in seconds.
@@ -169,11 +169,11 @@ def target_after(feed, token):
 
 
 class Response:
-    """A response as it comes: its head, and the payload of its body, however that is framed. Answers that go before the
-    final one (103, say) are skipped."""
+    """A response as it comes: its head, and the payload of its body, however that is framed. Heads that go before the
+    final one (103, say) are skipped, and noted."""
 
     def __init__(self):
-        self.status, self.version, self.fields, self.framing = None, "", {}, ""
+        self.status, self.version, self.fields, self.framing, self.interim = None, "", {}, "", []
         self.payload, self.is_whole, self.fault = bytearray(), False, None
         # What came first; what is not read yet; how many bytes of the body, or of a chunk with its end, are to come.
         self.begins, self.unread, self.left = b"", bytearray(), 0
@@ -204,7 +204,9 @@ class Response:
             self.fault = "no HTTP"
             return False
         del self.unread[: len(head) + 4]
-        if not found[2].startswith("1"):
+        if found[2].startswith("1"):
+            self.interim.append(found[2])
+        else:
             self.begin(found, rest)
         return True
 
@@ -252,6 +254,9 @@ class Response:
 class Passage:
     """A connection to a server: what was asked, and what came when. Times are in seconds since it was begun."""
 
+    # How many were made, to any server.
+    made = 0
+
     def __init__(self, feed, request):
         self.feed, self.request, self.response = feed, request, Response()
         self.began, self.link, self.address = time.monotonic(), None, None
@@ -259,7 +264,7 @@ class Passage:
         self.failure, self.is_unknown = None, False
         # When there was a connection, a head, a first byte of payload, the last byte, and the end.
         self.connected = self.answered = self.first = self.latest = self.ended = None
-        # How the server ended it: 'whole', 'closed' or 'reset'.
+        # How the server ended it: 'whole', 'closed' or 'reset'; or 'long', if it was left for its length.
         self.end = None
         # When bytes of lines came, and how many; and when white space alone came, which keeps a connection alive.
         self.arrivals, self.alive = [], []
@@ -269,6 +274,7 @@ class Passage:
 
     def connect(self):
         """Whether the server took the connection and the request."""
+        Passage.made += 1
         try:
             self.link = socket.create_connection((self.feed.host, self.feed.port), CONNECT)
             self.connected, self.address = self.now(), self.link.getpeername()[0]
@@ -306,8 +312,10 @@ class Passage:
             self.end, self.ended = "closed", self.now()
             return reader
         self.note(self.response.take(piece))
-        if self.response.is_whole or self.response.fault or len(self.response.payload) > MOST_FEED:
+        if self.response.is_whole or self.response.fault:
             self.end, self.ended = "whole", self.now()
+        elif len(self.response.payload) > MOST_FEED:
+            self.end, self.ended = "long", self.now()
         try:
             if reader:
                 reader.sendall(piece)
@@ -371,13 +379,17 @@ def is_worth_waiting(passage):
         return passage.now() - passage.answered < PAGE
     if not passage.response.payload.strip():
         return passage.now() - passage.answered < FIRST_LINE
-    return passage.now() - passage.latest < NEXT_LINE and len(passage.response.payload) < MOST_ANSWER
+    is_short = len(passage.response.payload) < MOST_ANSWER and passage.now() - passage.answered < ALL_LINES
+    return is_short and passage.now() - passage.latest < NEXT_LINE
 
 
-def tls_version(feed):
-    """Which version of TLS is spoken there, if any is."""
+def tls_version(feed, begins):
+    """Which version of TLS is spoken there, if any is: the server may have begun with an alert."""
+    if begins.startswith((b"\x15\x03", b"\x16\x03")):
+        return "TLS"
     context = ssl.create_default_context()
     context.check_hostname, context.verify_mode = False, ssl.CERT_NONE
+    Passage.made += 1
     with suppress(OSError, ValueError):
         with socket.create_connection((feed.host, feed.port), CONNECT) as link:
             link.settimeout(FIRST_LINE)

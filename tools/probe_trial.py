@@ -13,18 +13,19 @@ from probe_links import CONNECT, HEAD, Passage, in_background
 
 # How many connections `live` may make: some servers end each at once.
 MOST_CONNECTIONS = 8
-# How long a server that is late is waited for, beyond what `live` waits, in seconds.
-LATE = 20
+# How long a server that is late is waited for, beyond what `live` waits; and a relay on a busy machine, once nothing has
+# come for so long. In seconds.
+LATE, STILL = 20, 4
 # How long `live` is given to begin, and how often a screen asks, in seconds.
-BEGIN, AGAIN = 10, 0.2
+BEGIN, AGAIN = 30, 0.2
 
 
 class Trial:
     """A relay that follows a feed, with a screen that waits for it. Its first connection is read on after the relay left
     it, as it does once a feed has settled: what comes then says whether it had."""
 
-    def __init__(self, program, feed, asker, folder):
-        self.feed, self.passages, self.over = feed, [], Event()
+    def __init__(self, program, feed, asker, folder, options=()):
+        self.feed, self.passages, self.over, self.options = feed, [], Event(), options
         self.began, self.screened, self.peak, self.threads = time.monotonic(), None, None, []
         self.tap = socket.create_server(("127.0.0.1", 0))
         self.port, self.said = free_port(), Path(folder, "reports")
@@ -32,7 +33,7 @@ class Trial:
         base = ["--base", feed.base] if feed.base else []
         name = ["--host-header", asker.host_header or feed.server()]
         user = ["--user-file", asker.user_file] if asker.user_file else []
-        words = [program, "live", "--contest", feed.contest, *here, *base, *name, *user, "--until-eof"]
+        words = [program, "live", "--contest", feed.contest, *here, *base, *name, *user, "--until-eof", *options]
         with self.said.open("wb") as out:
             # Its input ends with this process, and it with that.
             how = {"stdin": subprocess.PIPE, "stdout": subprocess.DEVNULL, "stderr": out, "env": ENVIRONMENT}
@@ -73,7 +74,7 @@ class Trial:
                     with suppress(TimeoutError):
                         if not link.recv(4_096).startswith(b"HTTP/1.1 200"):
                             break
-                        self.screened = time.monotonic() - self.began
+                        self.screened = self.first().now()
             time.sleep(AGAIN)
 
     def wait(self, seconds):
@@ -81,9 +82,14 @@ class Trial:
         while self.is_worth_waiting(seconds):
             time.sleep(0.05)
 
+    def wait_for_screen(self, seconds):
+        """Waits for that at most, until a screen was shown something."""
+        while self.screened is None and self.is_worth_waiting(seconds):
+            time.sleep(0.05)
+
     def is_worth_waiting(self, seconds):
         first = self.first()
-        if self.relay.poll() is not None or first and (first.failure or first.response.fault):
+        if self.relay.poll() is not None or first and (first.failure or first.response.fault or first.response.interim):
             return False
         if first is None:
             return time.monotonic() - self.began < BEGIN + CONNECT
@@ -91,8 +97,14 @@ class Trial:
             return first.ended is None and first.now() < HEAD + LATE
         if first.has_page():
             return False
-        has_time = first.now() - first.answered < seconds
+        has_time = first.now() - first.answered < seconds + (LATE if self.is_behind() else 0)
         return has_time and not (first.end and (first.response.status != 200 or self.screened is not None))
+
+    def is_behind(self):
+        """Whether the relay has yet to show what seems to be all there is."""
+        first = self.first()
+        is_still = first.now() - first.latest > STILL
+        return is_still and self.screened is None and b'"token"' in first.response.payload[-100_000:]
 
     def finish(self):
         """Ends the relay, and with it all connections."""
