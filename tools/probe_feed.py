@@ -1,5 +1,5 @@
-"""What came of a feed, for tools/probe: as the program reads it, what a server answers to a token, and when a relay would
-show it."""
+"""What came of a feed, for tools/probe: as the program reads it, what a server answers to a token, and when a relay
+would show it."""
 import bisect
 import json
 import re
@@ -11,6 +11,8 @@ from common import ENVIRONMENT
 
 # A feed has settled once no more than one part in so many of it came of late: the rule of `live`.
 SHARE = 64
+# It counts in slices of time, of which those that it looks at last so much longer than the pause.
+SLICES = 16 / 15
 # What of that is more of the same: a second that brought over one part in so many of the busiest second before.
 BUSY = 8
 # How long `live` waits by default, in seconds, and what else may be given.
@@ -36,13 +38,19 @@ def notification(line):
         return None
     if not isinstance(said, dict):
         return None
-    return Notification(said.get("type"), said.get("id"), json.dumps(said.get("data"), sort_keys=True), said.get("token"))
+    data = json.dumps(said.get("data"), sort_keys=True)
+    return Notification(said.get("type"), said.get("id"), data, said.get("token"))
 
 
 def notifications(text):
     """What the whole lines of a text say."""
     found = (notification(line) for line in bytes(text).split(b"\n")[:-1] if line.strip())
     return [it for it in found if it]
+
+
+def tokens_of(notes):
+    """The tokens, in the order in which they came first."""
+    return list(dict.fromkeys(it.token for it in notes if it.token is not None))
 
 
 def objects_of(snapshot):
@@ -63,7 +71,7 @@ class Feed:
             self.bad = lines[number - 1]
             self.read(b"".join(line + b"\n" for line in lines[: number - 1]))
         self.notes = notifications(self.file.read_bytes())
-        self.tokens = list(dict.fromkeys(it.token for it in self.notes if it.token is not None))
+        self.tokens = tokens_of(self.notes)
         # Where each token came first.
         self.where = {it.token: at for at, it in reversed(list(enumerate(self.notes)))}
 
@@ -81,7 +89,8 @@ class Feed:
     def run(self, *words):
         """What the program prints and reports on what came."""
         with self.file.open("rb") as lines:
-            done = subprocess.run([self.program, *words], stdin=lines, capture_output=True, env=ENVIRONMENT, timeout=ONE)
+            how = {"stdin": lines, "capture_output": True, "env": ENVIRONMENT, "timeout": ONE}
+            done = subprocess.run([self.program, *words], check=False, **how)
         return done.stdout, done.stderr.decode(errors="replace")
 
     def tables(self, token=None):
@@ -118,7 +127,7 @@ class Feed:
 def answer_to(feed, token, passage):
     """What a server sends to who asks with this token: a word for it, and how it is said."""
     if passage.failure or passage.response.status is None:
-        return "failed", passage.failure or "no answer"
+        return "failed", passage.failure or f"no answer within {passage.lasted():.0f} s"
     if passage.response.status != 200:
         is_refusal = passage.response.status == 400
         return "refused" if is_refusal else "failed", f"status {passage.response.status}"
@@ -184,9 +193,9 @@ def settles_at(arrivals, pause):
     times, sums = [at for at, _ in arrivals], [0]
     for _, count in arrivals:
         sums.append(sums[-1] + count)
-    for shown in (at + pause for at in times):
+    for shown in (at + pause * SLICES for at in times):
         have = sums[bisect.bisect_right(times, shown)]
-        late = have - sums[bisect.bisect_right(times, shown - pause)]
+        late = have - sums[bisect.bisect_right(times, shown - pause * SLICES)]
         if late * SHARE <= have:
             return shown
     return None
@@ -226,7 +235,7 @@ def longer_pause(arrivals, pause, until):
 
 
 def shorter_pause(arrivals, until):
-    """For how many seconds it may wait at least, where the usual pause never comes; and when it would show what came."""
+    """For how many seconds it may wait at least, if the usual pause never comes; and when it would show what came."""
     for it in SHORTER:
         shown = settles_at(arrivals, it)
         if shown is not None and shown <= until and longest_pause(arrivals, shown - it) * 2 < it:

@@ -2,6 +2,7 @@
 connection, and when."""
 import base64
 import os
+import queue
 import re
 import select
 import socket
@@ -72,7 +73,8 @@ def scheme_fault(scheme, rest):
         return f"it has to begin with http://, as http://{rest}"
     path = rest.partition("/")[2] or "contests/CONTEST"
     if scheme.lower() == "https":
-        return f"TLS isn't spoken: put nginx before that server ({TLS_GUIDE}), and name that: http://127.0.0.1:8003/{path}"
+        named = f"http://127.0.0.1:8003/{path}"
+        return f"TLS isn't spoken: put nginx before that server ({TLS_GUIDE}), and name that: {named}"
     return None if scheme.lower() == "http" else f"{scheme} isn't spoken: only http is"
 
 
@@ -147,12 +149,13 @@ def asker_of(host_header, user_file):
         text = Path(user_file).read_bytes()
     except OSError as fault:
         raise Mistake(f"--user-file {user_file}: {fault.strerror}") from None
-    line = text.removesuffix(b"\n")
+    line, own = text.removesuffix(b"\n"), about.st_uid == os.geteuid()
+    is_line = re.fullmatch(rb"[^\0-\x1f\x7f:]*:[^\0-\x1f\x7f]*", line) and len(line) <= 1_024
     faults = [
-        (about.st_mode & 0o007 or about.st_mode & 0o070 and about.st_uid == os.geteuid(), "others may read it: chmod 600 it"),
+        (about.st_mode & 0o007 or about.st_mode & 0o070 and own, "others may read it: chmod 600 it"),
         (line.endswith(b"\r"), "its line ends in CR LF, as on Windows: leave LF alone"),
         (line.startswith(b"\xef\xbb\xbf"), "it begins with a byte order mark: save it as UTF-8 without one"),
-        (not re.fullmatch(rb"[^\0-\x1f\x7f:]*:[^\0-\x1f\x7f]*", line) or len(line) > 1_024, "it isn't one line NAME:PASSWORD"),
+        (not is_line, "it isn't one line NAME:PASSWORD"),
     ]
     for is_wrong, text in faults:
         if is_wrong:
@@ -262,8 +265,8 @@ class Passage:
         self.began, self.link, self.address = time.monotonic(), None, None
         # Why there was no connection, and whether the name has no address.
         self.failure, self.is_unknown = None, False
-        # When there was a connection, a head, a first byte of payload, the last byte, and the end.
-        self.connected = self.answered = self.first = self.latest = self.ended = None
+        # When there was a connection, a head, a first byte of payload, the last byte, the end; and the end of reading.
+        self.connected = self.answered = self.first = self.latest = self.ended = self.left = None
         # How the server ended it: 'whole', 'closed' or 'reset'; or 'long', if it was left for its length.
         self.end = None
         # When bytes of lines came, and how many; and when white space alone came, which keeps a connection alive.
@@ -271,6 +274,10 @@ class Passage:
 
     def now(self):
         return time.monotonic() - self.began
+
+    def lasted(self):
+        """For how long it was read."""
+        return self.left or self.now()
 
     def connect(self):
         """Whether the server took the connection and the request."""
@@ -288,40 +295,31 @@ class Passage:
         return self.failure is None
 
     def read(self, goes_on, reader=None, stays=False):
-        """Hands on what comes to a reader, while `goes_on()`, and until the server ends it. If the reader leaves, it ends,
-        too, unless it stays."""
-        while goes_on() and self.end is None:
-            watched = [it for it in (self.link, reader) if it]
-            ready, _, _ = select.select(watched, [], [], 0.05)
-            if reader in ready and is_gone(reader):
-                reader = None
-                if not stays:
-                    break
-            if self.link in ready:
-                reader = self.take_next(reader)
+        """Reads what comes, while `goes_on()`, until the server ends it, and hands it on to a reader. If the reader
+        leaves, it ends, too, unless it stays."""
+        while goes_on() and self.end is None and (stays or not reader or not reader.has_left()):
+            ready, _, _ = select.select([self.link], [], [], 0.05)
+            if ready:
+                self.take_next(reader)
+        self.left = self.now()
         self.link.close()
 
     def take_next(self, reader):
-        """Takes what came, and gives the reader, if there is still one."""
         try:
             piece = self.link.recv(1 << 18)
         except OSError:
             self.end, self.ended = "reset", self.now()
-            return reader
+            return
         if not piece:
             self.end, self.ended = "closed", self.now()
-            return reader
+            return
         self.note(self.response.take(piece))
         if self.response.is_whole or self.response.fault:
             self.end, self.ended = "whole", self.now()
         elif len(self.response.payload) > MOST_FEED:
             self.end, self.ended = "long", self.now()
-        try:
-            if reader:
-                reader.sendall(piece)
-        except OSError:
-            return None
-        return reader
+        if reader:
+            reader.hand_on(piece)
 
     def note(self, payload):
         self.latest = self.now()
@@ -344,12 +342,32 @@ class Passage:
         return self.answered is not None and not is_feed and (waited or len(answer.payload) > MOST_PAGE)
 
 
-def is_gone(reader):
-    """Whether the other end closed; what it sends is not looked at."""
-    try:
-        return not reader.recv(4_096)
-    except OSError:
+class HandedOn:
+    """What is handed on over a connection, by a thread of its own: a slow reader doesn't delay what is read."""
+
+    def __init__(self, link):
+        self.link, self.pieces = link, queue.SimpleQueue()
+        self.thread = in_background(self.send)
+
+    def hand_on(self, piece):
+        self.pieces.put(piece)
+
+    def send(self):
+        with suppress(OSError):
+            while piece := self.pieces.get():
+                self.link.sendall(piece)
+
+    def has_left(self):
+        """Whether the other end closed; what it sends is not looked at."""
+        ready, _, _ = select.select([self.link], [], [], 0)
+        with suppress(OSError):
+            return bool(ready) and not self.link.recv(4_096)
         return True
+
+    def finish(self):
+        """Hands on what there is, and waits until that was taken, or the other end closed."""
+        self.pieces.put(b"")
+        self.thread.join()
 
 
 def is_coded(response):

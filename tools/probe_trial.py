@@ -1,5 +1,5 @@
-"""The relay on trial of tools/probe: the program's own `live`, which follows a server through this process, so that what
-passes can be judged, and when it came."""
+"""The relay on trial of tools/probe: the program's own `live`, which follows a server through this process, so that
+what passes can be judged, and when it came."""
 import re
 import socket
 import subprocess
@@ -9,20 +9,20 @@ from pathlib import Path
 from threading import Event
 
 from common import ENVIRONMENT, free_port
-from probe_links import CONNECT, HEAD, Passage, in_background
+from probe_links import CONNECT, HEAD, HandedOn, Passage, in_background
 
 # How many connections `live` may make: some servers end each at once.
 MOST_CONNECTIONS = 8
-# How long a server that is late is waited for, beyond what `live` waits; and a relay on a busy machine, once nothing has
-# come for so long. In seconds.
+# How long a server that is late is waited for, beyond what `live` waits; and a relay on a busy machine, once nothing
+# has come for so long. In seconds.
 LATE, STILL = 20, 4
 # How long `live` is given to begin, and how often a screen asks, in seconds.
 BEGIN, AGAIN = 30, 0.2
 
 
 class Trial:
-    """A relay that follows a feed, with a screen that waits for it. Its first connection is read on after the relay left
-    it, as it does once a feed has settled: what comes then says whether it had."""
+    """A relay that follows a feed, with a screen that waits for it. Its first connection is read on after the relay
+    left it, as it does once a feed has settled: what comes then says whether it had."""
 
     def __init__(self, program, feed, asker, folder, options=()):
         self.feed, self.passages, self.over, self.options = feed, [], Event(), options
@@ -61,7 +61,9 @@ class Trial:
             passage = Passage(self.feed, request)
             self.passages.append(passage)
             if passage.connect():
-                passage.read(lambda: not self.over.is_set(), reader, stays=is_first)
+                handed = HandedOn(reader)
+                passage.read(lambda: not self.over.is_set(), handed, stays=is_first)
+                handed.finish()
 
     def show(self):
         """A screen: it asks until it is shown something."""
