@@ -18,7 +18,7 @@ BUSY = 8
 # How long `live` waits by default, in seconds, and what else may be given.
 SETTLE, LONGER, SHORTER = 2, (3, 5, 8, 10, 15, 20, 30, 60), (1, 0.5, 0.25)
 # How long one run of the program may take, in seconds.
-ONE = 240
+ONE = 600
 
 
 class Notification(NamedTuple):

@@ -9,6 +9,7 @@ from probe_links import HEAD, TLS_GUIDE, ask, is_coded, is_page, tls_version
 
 # The statuses: it fits as it is, with options, not; that can't be said; and no connection could be made.
 FITS, WITH_OPTIONS, NOT, UNSEEN, NO_CONNECTION = range(5)
+WORST_FIRST = (NO_CONNECTION, NOT, UNSEEN, FITS)
 # Where servers of the field have their contests.
 BASES = ("", "/api", "/api/v4", "/domjudge/api/v4")
 BY_NGINX = f"put nginx before that port ({TLS_GUIDE}), and name nginx"
@@ -37,7 +38,7 @@ class Findings:
     def problem(self, topic, text, *means, status=NOT):
         """What no option mends."""
         self.add("problem", topic, text, means)
-        self.worst = max(self.worst, status) if NO_CONNECTION in (self.worst, status) else status
+        self.worst = min(self.worst, status, key=WORST_FIRST.index)
 
     def not_seen(self, topic, why, *means):
         self.add("note", topic, f"not looked at: {why}", means)
