@@ -198,7 +198,7 @@ def see_failed(findings, what, said, passage):
     """What a request with a token comes to that is answered neither 200 nor 400."""
     if what == "newest" and not passage.failure:
         means = "a relay that asks while nothing is new fails so, and asks again up to 30 s later: commits are late."
-        more = "Its head has to come at once. If a proxy gave up, raise its limit (nginx: fastcgi_read_timeout)"
+        more = "Its head has to come at once: look at proxies, too (nginx: proxy_buffering off, fastcgi_read_timeout)"
         findings.problem(what, f"{said}, to its newest token", means, more)
     elif what == "unheld" and passage.response.status:
         means = "status 400 alone says that a token isn't held: if the server is set back, a relay asks again for ever."
