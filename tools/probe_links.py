@@ -23,7 +23,7 @@ MOST_FEED = 512 << 20
 # How many bytes of what is no feed are read, to show some; and for how long, in seconds.
 MOST_PAGE, PAGE = 1 << 16, 1
 
-TLS_GUIDE = "docs/OPERATING.md#a-server-that-wants-tls"
+TLS_GUIDE = "docs/SETUP.md#5-a-server-that-wants-tls"
 SERVER = re.compile(r"(?:\[([0-9A-Fa-f:.]+)\]|([A-Za-z0-9.-]{1,255}))(?::(\d{1,5}))?")
 CONTEST = re.compile(r"[A-Za-z0-9._-]{1,64}")
 BASE = re.compile(r"(?:/[A-Za-z0-9._~/-]{0,254}(?<!/))?")
