@@ -487,9 +487,10 @@ def primary_away(world, port):
 @step("relays name each other by the ports with a base, which nobody else may ask", "haproxy")
 def with_base(world, _port):
     for port in world.with_base:
-        with ours.connected(port) as conn:
-            conn.sendall(request_text(FEED))
-            ours.same("a relay is answered", ours.head_of(conn).split()[1], b"200")
+        for whose, status in (("127.0.0.1", b"200"), ("127.0.0.2", b"403")):
+            with socket.create_connection(("127.0.0.1", port), ours.ONE, (whose, 0)) as conn:
+                conn.sendall(request_text(FEED))
+                ours.same(f"{whose} is answered", ours.head_of(conn).split()[1], status)
     below, status = free_port(), free_port()
     words = ["live", "--quiet", "--contest", CONTEST, "--host", "127.0.0.1", "--port", free_port(), "--base", BASE]
     words += ["--from", f"127.0.0.1:{world.with_base[1]}", "--listen", below, "--status", status]
