@@ -23,6 +23,8 @@ use Rattle.feed_live.specs.Leaving.{BeginsOne, IsToLeave, has_left_quiet, is_pas
 use Rattle.feed_live.specs.Leading.{is_first, look_time}
 use Rattle.feed_live.specs.declared.source.leading.Leading.{Leading}
 use Rattle.feed_live.specs.declared.source.patience.Patience.{Patience}
+use Rattle.feed_live.specs.declared.source.rechecking.Rechecking.{Rechecking}
+use Rattle.feed_live.specs.declared.source.settling.Settling.{Settling}
 use Rattle.feed_device.specs.declared.report.Why.{Why}
 use Rattle.feed_device.specs.declared.report.Why.TheVariants.{Silent}
 use Rattle.feed_hub.specs.Upstream.{later}
@@ -96,23 +98,30 @@ connects_by returning leading patience = if has_left_quiet returning || patience
 answers_by : ℕ → Leading → Patience → ℕ
 answers_by place leading patience = if is_some leading.looks_from || patience.is_again && is_first leading place then look_time leading else patience.time
 
-why_by : Upstream → Reach → Returning → Leading → Patience → ℕ → Option ℕ → ℕ → ℕ → Option Why
-why_by upstream reach returning leading patience opened body_since idle now =
+answered_by : ℕ → Leading → Rechecking → Settling → Option ℕ → Bool
+answered_by place leading rechecking settling body_since =
+    is_some body_since && not (is_some leading.looks_from && is_some rechecking.again)
+    && not ((leading.wants_all && is_first leading place) && nat_eq settling.lines 0)
+
+why_by : Upstream → Reach → Returning → Leading → Patience → Rechecking → Settling → ℕ → Option ℕ → ℕ → ℕ → Option Why
+why_by upstream reach returning leading patience rechecking settling opened body_since idle now =
     if is_some upstream.follower && nat_le (later (later upstream.since idle) idle) now then Some Silent
-    else if is_past (late_at reach (connects_by returning leading patience) (answers_by upstream.place leading patience) opened body_since) now then Some (why_late reach)
+    else if is_past (late_at reach (connects_by returning leading patience) (answers_by upstream.place leading patience) opened (answered_by upstream.place leading rechecking settling body_since)) now then Some (why_late reach)
     else None
 
 -- a server is left for the same
 pub why_same : {a b : Source} (idle now : ℕ) → SameWaiting a b → why_left b idle now ≡ why_left a idle now
-unfolding why_by connects_by answers_by
+unfolding why_by connects_by answers_by answered_by
 why_same {a} {b} idle now waiting =
-    ap (λ u. why_by u b.reach b.returning b.leading b.patience b.opened b.body_since idle now) waiting.upstream
-    ∙ ap (λ r. why_by a.upstream r b.returning b.leading b.patience b.opened b.body_since idle now) waiting.reach
-    ∙ ap (λ r. why_by a.upstream a.reach r b.leading b.patience b.opened b.body_since idle now) waiting.returning
-    ∙ ap (λ l. why_by a.upstream a.reach a.returning l b.patience b.opened b.body_since idle now) waiting.leading
-    ∙ ap (λ p. why_by a.upstream a.reach a.returning a.leading p b.opened b.body_since idle now) waiting.patience
-    ∙ ap (λ o. why_by a.upstream a.reach a.returning a.leading a.patience o b.body_since idle now) waiting.opened
-    ∙ ap (λ s. why_by a.upstream a.reach a.returning a.leading a.patience a.opened s idle now) waiting.body_since
+    ap (λ u. why_by u b.reach b.returning b.leading b.patience b.rechecking b.settling b.opened b.body_since idle now) waiting.upstream
+    ∙ ap (λ r. why_by a.upstream r b.returning b.leading b.patience b.rechecking b.settling b.opened b.body_since idle now) waiting.reach
+    ∙ ap (λ r. why_by a.upstream a.reach r b.leading b.patience b.rechecking b.settling b.opened b.body_since idle now) waiting.returning
+    ∙ ap (λ l. why_by a.upstream a.reach a.returning l b.patience b.rechecking b.settling b.opened b.body_since idle now) waiting.leading
+    ∙ ap (λ p. why_by a.upstream a.reach a.returning a.leading p b.rechecking b.settling b.opened b.body_since idle now) waiting.patience
+    ∙ ap (λ r. why_by a.upstream a.reach a.returning a.leading a.patience r b.settling b.opened b.body_since idle now) waiting.rechecking
+    ∙ ap (λ s. why_by a.upstream a.reach a.returning a.leading a.patience a.rechecking s b.opened b.body_since idle now) waiting.settling
+    ∙ ap (λ o. why_by a.upstream a.reach a.returning a.leading a.patience a.rechecking a.settling o b.body_since idle now) waiting.opened
+    ∙ ap (λ s. why_by a.upstream a.reach a.returning a.leading a.patience a.rechecking a.settling a.opened s idle now) waiting.body_since
 
 pub left_same : {a b : Source} (idle now : ℕ) → SameWaiting a b → IsToLeave a idle now → IsToLeave b idle now
 left_same {a} {b} idle now waiting is =

@@ -1,6 +1,7 @@
 -- The first server of the command line is right: what is known of it while another one is followed.
 -- All times are in milliseconds.
-use Rattle.std.specs.Prelude.{◌≡◌, ℕ, ◌+◌, ◌-◌, ◌*◌, ◌^◌, Bool, false, not, ◌&&◌, nat_eq, nat_lt, min, max, if◌then◌else◌, Option, Some, None, is_some}
+use Rattle.std.specs.Prelude.{◌≡◌, ℕ, ◌+◌, ◌-◌, ◌*◌, ◌^◌, Bool, false, not, ◌&&◌, nat_eq, nat_le, nat_lt, min, max, if◌then◌else◌, Option, Some, None, is_some}
+use Rattle.feed_hub.specs.Upstream.{later}
 use Rattle.feed_live.specs.declared.source.leading.Leading.{Leading}
 
 -- a place is one of the first server
@@ -12,13 +13,23 @@ abbrev pub was_behind : Option ℕ → ℕ → Bool
 was_behind None now = false
 was_behind (Some at) now = nat_lt (now - at) 60000
 
+-- since when it refuses our newest token, where it refuses that now
+abbrev pub refused_since : Option ℕ → ℕ → Option ℕ
+refused_since None now = Some now
+refused_since (Some at) now = Some at
+
+-- it refused that a second ago or longer
+abbrev pub has_refused : Option ℕ → ℕ → Bool
+has_refused None now = false
+has_refused (Some at) now = nat_le (later at 1000) now
+
 -- One that refuses our newest token now has another log: it is the first one, and refused that
 -- before. Where there is no other server, or its log was found to be behind ours not long ago, it
 -- hasn't.
 abbrev pub is_other_log : Leading → ℕ → ℕ → Bool
 is_other_log leading place now =
-    is_first leading place && leading.has_refused && not (was_behind leading.behind_at now)
-    && nat_lt 0 leading.others
+    is_first leading place && has_refused leading.refused_at now
+    && not (was_behind leading.behind_at now) && nat_lt 0 leading.others
 
 -- another server, of this place, is followed in place of the first one
 abbrev pub is_instead : Leading → ℕ → Bool
@@ -48,9 +59,10 @@ looks_next leading =
 pub record SameLead (old new : Leading) : Type 0 where
   pub places : new.places ≡ old.places
   pub others : new.others ≡ old.others
-  pub refused : new.has_refused ≡ old.has_refused
+  pub refused : new.refused_at ≡ old.refused_at
   pub all : new.wants_all ≡ old.wants_all
   pub behind : new.behind_at ≡ old.behind_at
+  pub alone : new.is_alone ≡ old.is_alone
   pub time : new.answer_time ≡ old.answer_time
   pub next : new.next ≡ old.next
   pub from : new.looks_from ≡ old.looks_from

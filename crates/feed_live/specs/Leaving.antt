@@ -63,22 +63,29 @@ response_time source =
     || source.patience.is_again && is_first source.leading source.upstream.place
     then look_time source.leading else source.patience.time
 
--- When an answer is late: so long after the connection was begun, until its head has come.
-abbrev pub answer_late : ℕ → ℕ → Option ℕ → Option ℕ
-answer_late opened time None = Some (later opened time)
-answer_late opened time (Some since) = None
+-- A server has answered: the head came. Of a first one that is only looked at the newest commit
+-- came again, too, where that was asked for; of one that was asked for everything, a line.
+abbrev pub has_answered : Source → Bool
+has_answered source =
+    is_some source.body_since && not (is_look source && is_some source.rechecking.again)
+    && not (wants_all source && nat_eq source.settling.lines 0)
+
+-- When an answer is late: so long after the connection was begun, until the server has answered.
+abbrev pub answer_late : ℕ → ℕ → Bool → Option ℕ
+answer_late opened time false = Some (later opened time)
+answer_late opened time true = None
 
 -- When a server is late that may take so long to take the connection, and so long to answer.
-abbrev pub late_at : Reach → ℕ → ℕ → ℕ → Option ℕ → Option ℕ
-late_at Away connects answers opened body_since = None
-late_at (Connects since) connects answers opened body_since = Some (later since connects)
-late_at (Asks count) connects answers opened body_since = answer_late opened answers body_since
-late_at Reads connects answers opened body_since = answer_late opened answers body_since
+abbrev pub late_at : Reach → ℕ → ℕ → ℕ → Bool → Option ℕ
+late_at Away connects answers opened answered = None
+late_at (Connects since) connects answers opened answered = Some (later since connects)
+late_at (Asks count) connects answers opened answered = answer_late opened answers answered
+late_at Reads connects answers opened answered = answer_late opened answers answered
 
 abbrev pub late_time : Source → Option ℕ
 late_time source =
     late_at source.reach (connect_time source) (response_time source) source.opened
-    source.body_since
+    (has_answered source)
 
 abbrev pub why_late : Reach → Why
 why_late Away = NoAnswer
@@ -106,6 +113,7 @@ abbrev pub after_loss : Option ℕ → Returning → Returning
 after_loss None returning = returning
 after_loss (Some head) returning = record {
   after = returning.after;
+  since = returning.since;
   published = returning.published;
   left_quiet = 0;
   was_reported = false;
@@ -141,15 +149,17 @@ quiet_time returning is_first all_left =
     else returning.after
 
 -- A server may be left for having nothing new: there is another one, nothing that came waits, and
--- nothing is to settle. The relay is set to leave one so.
+-- nothing is to settle. The relay is set to leave one so, and the first one's log did not just take
+-- the place of ours.
 abbrev pub may_be_left : Source → Bool
 may_be_left source =
     is_none source.coming && nat_le 2 (length source.places.items) && not source.has_more
     && nat_eq (length source.rest.items) 0 && not (nat_eq source.returning.after 0)
+    && not source.leading.is_alone
 
-abbrev pub quiet_since : Source → ℕ → ℕ
-quiet_since source since =
-    later (max since source.returning.published)
+abbrev pub quiet_since : Source → ℕ
+quiet_since source =
+    later (max source.returning.since source.returning.published)
     (quiet_time source.returning (nat_eq source.upstream.place 0) (were_all_left source))
 
 -- The first server is looked at, while another one is followed in its place: not where each
@@ -158,16 +168,22 @@ abbrev pub is_looked_at : Source → Bool
 is_looked_at source =
     is_instead source.leading source.upstream.place && not source.settling.is_always
 
+-- And it wasn't late: looks are enough. One that was late has its turn in each round, too, and all
+-- the time to answer then.
+abbrev pub has_looks_alone : Source → Bool
+has_looks_alone source = is_looked_at source && not source.leading.was_late
+
 -- and that is the only other one: it isn't left for having nothing new
 abbrev pub is_only_other : Source → Bool
-is_only_other source = is_looked_at source && nat_lt source.leading.others 2
+is_only_other source = has_looks_alone source && nat_lt source.leading.others 2
 
 -- When a server is left whose answer is read, and that has nothing new: so long after the head of
--- that answer came, or after something was published, whichever was later.
+-- that answer came, or of the first one of those after which it was asked again, since its feed
+-- ended or after a look; or after something was published, whichever was later.
 abbrev pub quiet_at : Source → Reach → Option ℕ
 quiet_at source Reads =
     if may_be_left source && not (is_only_other source)
-    then option_map (quiet_since source) source.body_since else None
+    then option_map (λ since. quiet_since source) source.body_since else None
 quiet_at source Away = None
 quiet_at source (Connects since) = None
 quiet_at source (Asks count) = None
@@ -176,7 +192,7 @@ quiet_at source (Asks count) = None
 -- server, where that is looked at.
 abbrev pub after_quiet : Source → ℕ
 after_quiet source =
-    if is_looked_at source && nat_le (length source.places.items) (source.upstream.place + 1)
+    if has_looks_alone source && nat_le (length source.places.items) (source.upstream.place + 1)
     then source.leading.places else min (source.upstream.place + 1) (2 ^ 64 - 1)
 
 -- How many have refused the token once this one does, in a row: not where the first server was only
@@ -198,6 +214,11 @@ look_at source Reads =
 look_at source Away = None
 look_at source (Connects since) = None
 look_at source (Asks count) = None
+
+-- No connection is to be begun to another server: the first one's log took the place of ours.
+abbrev pub is_passed_over : Source → Bool
+is_passed_over source =
+    source.leading.is_alone && not (is_first source.leading source.upstream.place)
 
 -- A look at it begins: it is asked at once, and the other one where that fails.
 pub record LooksAtFirst (old new : Source) (now : ℕ) : Type 0 where

@@ -64,8 +64,9 @@ pub(crate) struct Source {
     coming: Option<Mirror>,
     /// When that has settled.
     settling: Settling,
-    /// The last token of what came afresh when the connection ended before it had settled.
-    ended: Option<Name>,
+    /// The server, and the last token of what came afresh of it when the connection ended before it
+    /// had settled.
+    ended: Option<(usize, Name)>,
     /// Whether its body was complete then.
     ended_whole: bool,
     /// How the body that came afresh last began, and how this one does.

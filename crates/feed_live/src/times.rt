@@ -38,6 +38,10 @@ pub(crate) const LOOK_APART: u64 = 25_000;
 /// How long it may take to answer then.
 pub(crate) const LOOK_TIME: u64 = 2_000;
 
+/// How long after it refused our token the first server has to refuse it again, if its log is to
+/// count as another one.
+pub(crate) const REFUSED_APART: u64 = 1_000;
+
 /// For how long a first server that was found to be behind us isn't asked for everything again.
 pub(crate) const ALL_APART: u64 = 60_000;
 

@@ -119,8 +119,8 @@ impl Beginning {
             return false;
         };
         let is_replay = match (&self.first, shown.token()) {
-            (Some((first, _)), _) if first.text() == token => true,
             (_, Some(newest)) if newest.text() == token => false,
+            (Some((first, _)), _) if first.text() == token => true,
             (Some((_, size)), _) => *size >= LEAST && is_all(alloc, follows.node(), shown),
             (None, _) => false,
         };

@@ -20,7 +20,7 @@ impl Source {
     ghost use Rattle.feed_live.specs.Times.{HeedsTime, KeepsTimes, SameTimes};
     ghost use Rattle.feed_live.specs.Relaying.{StillFollows, SameSource, SameWaiting, WasLeft, GoesOnTo, IsToConnect, RestsAway, servers_of, within_turn};
     ghost use Rattle.feed_live.specs.Upstream.{IsRequestOf, IsRequestWith, asked_with};
-    ghost use Rattle.feed_live.specs.Leaving.{AsksAgain, LooksAtFirst, after_loss, after_quiet, connect_time, has_left_quiet, heard_time, is_end, is_past, late_time, look_at, newest_time, quiet_at, response_time, stood_long, why_late, why_left, LeavesLate, IsToLeave, IsToMove, IsToStay, IsAtRest, ConnectsTo};
+    ghost use Rattle.feed_live.specs.Leaving.{AsksAgain, LooksAtFirst, after_loss, after_quiet, connect_time, has_answered, has_left_quiet, heard_time, is_end, is_past, late_time, look_at, newest_time, quiet_at, response_time, stood_long, why_late, why_left, LeavesLate, IsToLeave, IsToMove, IsToStay, IsAtRest, ConnectsTo};
     ghost use Rattle.feed_live.specs.declared.source.Reach.TheVariants.{Away, Connects as Connecting, Reads as Read};
     ghost use Rattle.feed_screens.specs.declared.screens.Screens.{Screens};
 
@@ -31,11 +31,25 @@ impl Source {
         match self.reach {
             Reach::Away => None,
             Reach::Connects(since) => Some(since.saturating_add(self.connect_time())),
-            _ => match self.body_since {
-                Some(_) => None,
-                None => Some(self.opened.saturating_add(self.response_time())),
-            },
+            _ => {
+                if self.has_answered() {
+                    None
+                } else {
+                    Some(self.opened.saturating_add(self.response_time()))
+                }
+            }
         }
+    }
+
+    /// Whether the server has answered: the head came. Of a first one that is only looked at the
+    /// newest commit came again, too, where that was asked for; of one that was asked for
+    /// everything, a line.
+    fn has_answered(&self) -> bool
+        ensures { result ≡ has_answered self.now }
+    {
+        let awaits_newest = self.leading.is_look() && self.rechecking.is_going();
+        let lacks_all = self.leading.wants_all(self.upstream.place()) && self.settling.lines() == 0;
+        self.body_since.is_some() && !awaits_newest && !lacks_all
     }
 
     /// How long a server may take to answer: not long where it is the first one, and is only looked
@@ -230,6 +244,10 @@ impl Source {
         ensures refused { self.new.upstream.refused ≡ self.old.upstream.refused }
         ensures heard { self.old.body_since ≡ None → self.new.is_heard ≡ self.old.is_heard }
     {
+        if self.is_passed_over() {
+            self.pass_over(link, desk.time);
+            return;
+        }
         let coming = match self.begin_afresh(desk.alloc) {
             Ok(coming) => coming,
             Err(_) => {

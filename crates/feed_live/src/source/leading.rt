@@ -6,13 +6,24 @@
 //! While another server is followed in its place, that is told, with the reason, and the first one
 //! is looked at now and then.
 
-ghost use Rattle.std.specs.Prelude.{◌≡◌, ◌&&◌, ◌||◌, ◌*◌, true, false, None, Some, is_some, min};
-ghost use Rattle.feed_live.specs.Leading.{SameLead, is_first, is_back, is_instead, is_other_log, look_time, looks_next, was_behind};
+ghost use Rattle.std.specs.Prelude.{◌≡◌, ◌&&◌, ◌*◌, if◌then◌else◌, true, false, None, Some, is_some, min};
+ghost use Rattle.feed_live.specs.Leading.{SameLead, is_first, is_back, is_instead, is_other_log, look_time, looks_next, refused_since, was_behind};
+ghost use Rattle.feed_live.specs.declared.source.leading.Coming.TheVariants.{News};
 
-use crate::times::{ALL_APART, FIRST_LOOK, LOOK_APART, LOOK_TIME, RESPONSE_TIME, STOOD_LONG};
+use crate::times::{ALL_APART, FIRST_LOOK, LOOK_APART, LOOK_TIME, REFUSED_APART, RESPONSE_TIME};
 use feed_answer::Place;
 use feed_device::{Desk, Lack, Report};
-use std::mem;
+
+/// What is yet to come of a server that answers.
+#[derive(Clone, Copy, PartialEq, Eq)]
+pub(crate) enum Coming {
+    /// What comes after our token.
+    News,
+    /// The newest commit, again.
+    Newest,
+    /// Everything.
+    All,
+}
 
 /// What is known of the first server. All times are in milliseconds.
 #[derive(Clone, Copy)]
@@ -21,21 +32,23 @@ pub(crate) struct Leading {
     places: usize,
     /// How many are of other servers.
     others: usize,
-    /// It refused the newest token, and held none since then.
-    has_refused: bool,
+    /// Since when it refuses the newest token, where it held none since then.
+    refused_at: Option<u64>,
     /// It is asked for everything, though something is shown that has a token.
     wants_all: bool,
     /// When its log was found to be behind ours.
     behind_at: Option<u64>,
-    /// Why it isn't followed, and since when.
+    /// Its log took the place of ours, and it has published nothing more: the others may still have
+    /// the old one, with the same tokens.
+    is_alone: bool,
+    /// Why it isn't followed, and since when; and whether it was late.
     lack: Option<(Lack, u64)>,
+    was_late: bool,
     /// When it is looked at next, where another one is followed.
     look_at: u64,
     /// How long it is not looked at once that failed.
     pause: u64,
-    /// When it answered last with the feed.
-    found: u64,
-    /// How long it took to answer then.
+    /// How long it took to answer the last time.
     answer_time: u64,
     /// Which of its places is looked at next.
     next: usize,
@@ -64,19 +77,21 @@ impl Leading {
     /// Nothing is known yet.
     pub(crate) fn new(places: &[Place]) -> Leading
         ensures none { (result.lack ≡ None) × (result.looks_from ≡ None)
-            × (result.has_refused ≡ false) × (result.wants_all ≡ false) }
+            × (result.refused_at ≡ None) × (result.wants_all ≡ false)
+            × (result.is_alone ≡ false) }
     {
         let own = places_of_first(places);
         Leading {
             places: own,
             others: places.len().saturating_sub(own),
-            has_refused: false,
+            refused_at: None,
             wants_all: false,
             behind_at: None,
+            is_alone: false,
             lack: None,
+            was_late: false,
             look_at: 0,
             pause: FIRST_LOOK,
-            found: 0,
             answer_time: 0,
             next: 0,
             looks_from: None,
@@ -98,9 +113,9 @@ impl Leading {
         self.others
     }
 
-    /// The number of the server of a place, from 0 for the first one.
+    /// The number of the server of a place, from 0 for the first one, and where there is none.
     pub(crate) fn index(&self, place: usize) -> u64 {
-        if place < self.places {
+        if place < self.places || self.places == 0 {
             return 0;
         }
         (place - self.places).saturating_add(1) as u64
@@ -111,33 +126,37 @@ impl Leading {
     /// The server of a place holds our token, or what it sent is shown.
     pub(crate) fn hold(&mut self, place: usize)
         ensures first { is_first self.old place ≡ true → self.new ≡ record self.old {
-          has_refused = false;
+          refused_at = None;
           wants_all = false;
           behind_at = None;
         } }
         ensures other { is_first self.old place ≡ false → self.new ≡ self.old }
     {
         if self.is_first(place) {
-            self.has_refused = false;
+            self.refused_at = None;
             self.wants_all = false;
             self.behind_at = None;
         }
     }
 
-    /// The server of a place refuses our newest token. Whether it is the first one, refused it
-    /// before, and so has another log: not where that was found to be behind ours not long ago, nor
-    /// where there is no other server.
+    /// The server of a place refuses our newest token. Whether it is the first one, refused it a
+    /// second ago or longer, and so has another log: not where that was found to be behind ours not
+    /// long ago, nor where there is no other server.
     pub(crate) fn refuse(&mut self, place: usize, now: u64) -> bool
         ensures other { result ≡ is_other_log self.old place now }
         ensures refused { self.new ≡ record self.old {
-          has_refused = self.old.has_refused || is_first self.old place;
+          refused_at = if is_first self.old place then refused_since self.old.refused_at now
+              else self.old.refused_at;
         } }
     {
         if !self.is_first(place) {
             return false;
         }
-        let has_refused = mem::replace(&mut self.has_refused, true);
-        has_refused && !self.was_behind(now) && self.others > 0
+        let Some(at) = self.refused_at else {
+            self.refused_at = Some(now);
+            return false;
+        };
+        at.saturating_add(REFUSED_APART) <= now && !self.was_behind(now) && self.others > 0
     }
 
     /// Whether its log was found to be behind ours less than a minute ago.
@@ -172,6 +191,20 @@ impl Leading {
         self.behind_at = Some(now);
     }
 
+    /// Its log takes the place of ours.
+    pub(crate) fn stand_alone(&mut self)
+        ensures { self.new ≡ record self.old { is_alone = true } }
+    {
+        self.is_alone = true;
+    }
+
+    /// Whether its log took the place of ours, and it has published nothing more.
+    pub(crate) fn is_alone(&self) -> bool
+        ensures { result ≡ self.now.is_alone }
+    {
+        self.is_alone
+    }
+
     // ---- another one in its place
 
     /// Since when it isn't followed, and why, as it is told where this place is followed.
@@ -193,8 +226,8 @@ impl Leading {
         }
     }
 
-    /// It is not followed, for this. Another reason than before is news. One that had been followed
-    /// for long is looked at soon, one that was late seldom.
+    /// It is not followed, for this. Another reason than before is news. One that was late is
+    /// looked at seldom.
     fn lack_for(&mut self, lack: Lack, now: u64)
         ensures { SameLead self.old self.new }
     {
@@ -205,18 +238,21 @@ impl Leading {
                 }
                 *since
             }
-            None => {
-                if now.saturating_sub(self.found) >= STOOD_LONG {
-                    self.pause = FIRST_LOOK;
-                }
-                now
-            }
+            None => now,
         };
-        if lack.is_late() {
+        self.was_late = lack.is_late();
+        if self.was_late {
             self.pause = LOOK_APART;
         }
         self.look_at = now.saturating_add(self.pause);
         self.lack = Some((lack, since));
+    }
+
+    /// Whether it was late when it failed last.
+    pub(crate) fn was_late(&self) -> bool
+        ensures { result ≡ self.now.was_late }
+    {
+        self.was_late
     }
 
     /// Whether the server of a place was reported to be followed in place of the first one.
@@ -227,16 +263,19 @@ impl Leading {
     }
 
     /// The server of a place answers with the feed, after so long: the first one, or another one in
-    /// its place. A change is reported; but where all of it, or its newest commit, is yet to come,
-    /// the first one isn't followed again before that.
-    pub(crate) fn find(&mut self, desk: &mut Desk, place: usize, time: u64, is_whole: bool)
+    /// its place. A change is reported. Where the newest commit is yet to come again, or all of it,
+    /// a look at the first one goes on, and it isn't followed again before that.
+    pub(crate) fn find(&mut self, desk: &mut Desk, place: usize, time: u64, is: Coming)
         ensures time { desk.new.time ≡ desk.old.time }
+        ensures over { is ≡ News → self.new.looks_from ≡ None }
     {
-        self.looks_from = None;
+        let is_news = is == Coming::News;
+        if is_news {
+            self.looks_from = None;
+        }
         if self.is_first(place) {
             self.answer_time = time;
-            self.found = desk.time;
-            if is_whole {
+            if is_news {
                 self.follow(desk, place);
             }
         } else if let Some((lack, _)) = self.lack {
@@ -251,17 +290,23 @@ impl Leading {
     {
         self.hold(place);
         if self.is_first(place) {
+            self.looks_from = None;
             self.follow(desk, place);
         }
     }
 
-    /// The server of a place published something. One that is not the first is followed in its
-    /// place from now on, though that did not fail.
-    pub(crate) fn publish(&mut self, desk: &mut Desk, place: usize)
+    /// The server of a place published something, and the commit before that is held or isn't. One
+    /// that is not the first is followed in its place from now on, though that did not fail.
+    pub(crate) fn publish(&mut self, desk: &mut Desk, place: usize, holds_former: bool)
         ensures time { desk.new.time ≡ desk.old.time }
     {
         self.show(desk, place);
-        if self.is_first(place) || self.others == 0 || self.lack.is_some() {
+        if self.is_first(place) {
+            self.pause = FIRST_LOOK;
+            self.is_alone = self.is_alone && !holds_former;
+            return;
+        }
+        if self.others == 0 || self.lack.is_some() {
             return;
         }
         self.lack_for(Lack::Quiet, desk.time);
@@ -271,6 +316,7 @@ impl Leading {
     /// It is followed again: that is reported where it was reported that another one is.
     fn follow(&mut self, desk: &mut Desk, place: usize)
         ensures time { desk.new.time ≡ desk.old.time }
+        ensures from { self.new.looks_from ≡ self.old.looks_from }
     {
         let Some((_, since)) = self.lack.take() else {
             return;
@@ -286,6 +332,7 @@ impl Leading {
     /// Reports once that this server is followed in place of the first one.
     fn say_instead(&mut self, desk: &mut Desk, place: usize, lack: Lack)
         ensures time { desk.new.time ≡ desk.old.time }
+        ensures from { self.new.looks_from ≡ self.old.looks_from }
     {
         if self.said == Some(place) {
             return;

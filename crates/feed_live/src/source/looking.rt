@@ -4,7 +4,7 @@
 
 ghost use Rattle.std.specs.Prelude.{◌≡◌, ◌%◌, None, false};
 ghost use Rattle.feed_node.specs.Mirroring.{cut_off};
-ghost use Rattle.feed_live.specs.Leaving.{LooksAtFirst, after_quiet, is_looked_at, is_only_other, is_past, look_at, may_be_left};
+ghost use Rattle.feed_live.specs.Leaving.{LooksAtFirst, after_quiet, has_looks_alone, is_looked_at, is_only_other, is_passed_over, is_past, look_at, may_be_left};
 
 use crate::source::{Reach, Source};
 use crate::times::LOOK_TIME;
@@ -13,7 +13,7 @@ use feed_figures::Following;
 
 impl Source {
     ghost use Rattle.feed_live.specs.Times.{HeedsTime};
-    ghost use Rattle.feed_live.specs.Relaying.{GoesOnFrom, WasLeft};
+    ghost use Rattle.feed_live.specs.Relaying.{GoesOnFrom, GoesOnTo, WasLeft};
 
     /// Whether the first server is looked at, while another one is followed in its place. Where
     /// each connection asks for everything it isn't: each look would have all of that settle again.
@@ -23,15 +23,24 @@ impl Source {
         self.leading.is_instead(self.upstream.place()) && !self.is_always_fresh()
     }
 
+    /// Whether looks are enough, since it wasn't late. One that was late has its turn in each
+    /// round, too, and all the time to answer then.
+    fn has_looks_alone(&self) -> bool
+        ensures { result ≡ has_looks_alone self.now }
+    {
+        self.is_looked_at() && !self.leading.was_late()
+    }
+
     /// Whether that is the only other one: it isn't left for having nothing new.
     pub(crate) fn is_only_other(&self) -> bool
         ensures { result ≡ is_only_other self.now }
     {
-        self.is_looked_at() && self.leading.others() < 2
+        self.has_looks_alone() && self.leading.others() < 2
     }
 
     /// Whether a server whose answer is read may be left for another one: nothing that came waits,
-    /// and nothing is to settle. The relay is set to leave one so.
+    /// and nothing is to settle. The relay is set to leave one so, and the first one's log did not
+    /// just take the place of ours.
     pub(crate) fn may_be_left(&self) -> bool
         ensures { result ≡ may_be_left self.now }
     {
@@ -40,6 +49,7 @@ impl Source {
             && !self.has_more
             && self.rest.is_empty()
             && self.returning.may_leave()
+            && !self.leading.is_alone()
     }
 
     /// When the first server is looked at.
@@ -84,11 +94,34 @@ impl Source {
         ensures { result ≡ after_quiet self.now }
     {
         let next = self.upstream.place().saturating_add(1);
-        if self.is_looked_at() && next >= self.places.len() {
+        if self.has_looks_alone() && next >= self.places.len() {
             self.leading.other()
         } else {
             next
         }
+    }
+
+    /// Whether no connection is to be begun to this server: the first one's log took the place of
+    /// ours, and another one may still have the old one, with the same tokens.
+    pub(crate) fn is_passed_over(&self) -> bool
+        ensures { result ≡ is_passed_over self.now }
+    {
+        self.leading.is_alone() && !self.leading.is_first(self.upstream.place())
+    }
+
+    /// The next one is asked, as if this one had failed.
+    pub(crate) fn pass_over<L: Link>(&mut self, link: &mut L, now: u64)
+        ensures left { WasLeft self.old self.new (L.exchanges link.old) (L.exchanges link.new) }
+        ensures calls { L.calls link.new ≡ L.calls link.old }
+        ensures next { GoesOnTo self.old self.new now }
+        ensures rests { self.new.has_more ≡ false }
+        ensures heard { self.new.is_heard ≡ self.old.is_heard }
+        ensures refused { self.new.upstream.refused ≡ self.old.upstream.refused }
+        ensures heeds { HeedsTime self.old self.new now now }
+    {
+        let back = self.leading.end_look();
+        self.leave(link, now);
+        self.ask_next(back, now);
     }
 
     /// The server was lost: the next one is asked; where the first one was only looked at, the one

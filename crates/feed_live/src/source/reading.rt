@@ -11,6 +11,7 @@ ghost use Rattle.feed_live.specs.Upstream.{wants_memory};
 ghost use Rattle.feed_live.specs.Leading.{is_other_log};
 ghost use Rattle.feed_live.specs.Leaving.{refused_after};
 
+use crate::source::leading::Coming;
 use crate::source::settling::followed_of;
 use crate::source::settling::showing::End;
 use crate::source::{Reach, Source, has_to_wait};
@@ -408,6 +409,7 @@ impl Source {
     {
         let now = desk.time;
         let server = self.upstream.place();
+        self.patience.answer(now.saturating_sub(self.opened));
         let back = self.leading.end_look();
         let is_other_log = self.leading.refuse(server, now);
         self.leave(link, now);
@@ -449,9 +451,22 @@ impl Source {
         desk.reports
             .add_if(self.is_found_news(), Report::Found { server, away });
         let took = desk.time.saturating_sub(self.opened);
-        let is_whole = !self.leading.wants_all(server) && !self.rechecking.is_going();
+        let comes = self.what_comes();
+        let is_again = self.patience.is_again() || self.leading.is_back(server);
+        self.returning.find(is_again, desk.time);
         self.patience.answer(took);
-        self.leading.find(desk, server, took, is_whole);
+        self.leading.find(desk, server, took, comes);
+    }
+
+    /// What is yet to come of the server.
+    fn what_comes(&self) -> Coming {
+        if self.coming.is_some() {
+            Coming::All
+        } else if self.rechecking.is_going() {
+            Coming::Newest
+        } else {
+            Coming::News
+        }
     }
 
     /// A server that goes on from our token holds it, unless its newest commit is yet to come

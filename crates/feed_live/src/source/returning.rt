@@ -3,7 +3,7 @@
 //! token: whoever has something new is followed then. That costs screens nothing. Where nobody has,
 //! the first one is followed for longer, until the next round.
 
-ghost use Rattle.std.specs.Prelude.{◌≡◌, ◌+◌, ◌%◌, length, min, nat_eq, not, false, true};
+ghost use Rattle.std.specs.Prelude.{◌≡◌, ◌+◌, ◌%◌, if◌then◌else◌, length, min, nat_eq, not, false, true};
 ghost use Rattle.feed_live.specs.Leaving.{after_quiet, has_left_quiet, is_past, left_next, quiet_at, quiet_time};
 
 use crate::source::{Reach, Source};
@@ -23,6 +23,9 @@ pub(crate) struct Returning {
     /// After so many milliseconds in which nothing was published another server is asked; never
     /// where it is zero.
     after: u64,
+    /// Since when the server is followed, in milliseconds; also where it was asked again since its
+    /// feed ended, or after a look at the first one.
+    since: u64,
     /// When something was published last, or the relay began, in milliseconds.
     published: u64,
     /// How many servers were left since then for having nothing new, in this round of them.
@@ -35,6 +38,7 @@ impl Returning {
     pub(crate) fn new(after: u64, now: u64) -> Returning
         ensures { result ≡ record {
           after = after;
+          since = now;
           published = now;
           left_quiet = 0;
           was_reported = false;
@@ -42,9 +46,21 @@ impl Returning {
     {
         Returning {
             after,
+            since: now,
             published: now,
             left_quiet: 0,
             was_reported: false,
+        }
+    }
+
+    /// A server answers: another one, or the same again.
+    pub(crate) fn find(&mut self, is_again: bool, now: u64)
+        ensures { self.new ≡ record self.old {
+          since = if is_again then self.old.since else now;
+        } }
+    {
+        if !is_again {
+            self.since = now;
         }
     }
 
@@ -120,14 +136,15 @@ impl Source {
     pub(crate) fn returns_at(&self) -> Option<u64>
         ensures { result ≡ quiet_at self.now self.now.reach }
     {
-        let since = self.body_since?;
+        self.body_since?;
         let is_first = self.upstream.place() == 0;
         let were_all_left = self.returning.left_quiet >= self.places.len();
         if self.reach != Reach::Reads || !self.may_be_left() || self.is_only_other() {
             return None;
         }
         let time = self.returning.time(is_first, were_all_left);
-        Some(since.max(self.returning.published).saturating_add(time))
+        let since = self.returning.since.max(self.returning.published);
+        Some(since.saturating_add(time))
     }
 
     /// Whether it is time for that.

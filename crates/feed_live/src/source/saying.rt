@@ -50,7 +50,9 @@ impl Source {
             self.upstream.published();
             self.rechecking.trust();
             self.returning.publish(desk.time);
-            self.leading.publish(desk, self.upstream.place());
+            let holds_former = self.answers.shown.node().former_token().is_some();
+            self.leading
+                .publish(desk, self.upstream.place(), holds_former);
         }
     }
 

@@ -1,7 +1,7 @@
 //! What comes after a turn: when the next one is due, whether the input may be read before that,
 //! and whether there is one.
 
-ghost use Rattle.std.specs.Prelude.{◌≡◌, ◌<◌, ◌≤◌, ◌+◌, ◌-◌, ◌^◌, ◌⊎◌, ◌↔◌, ◌&&◌, min, None, Some, IfSome, is_none, false, true};
+ghost use Rattle.std.specs.Prelude.{◌≡◌, ◌<◌, ◌≤◌, ◌+◌, ◌-◌, ◌^◌, ◌⊎◌, ◌↔◌, ◌&&◌, ◌≢◌, [], min, None, Some, IfSome, is_none, false, true};
 ghost use Rattle.feed_device.specs.Sockets.{AllSockets};
 
 use crate::times::{SCREENS_REPORT, TICK};
@@ -12,6 +12,7 @@ impl Live {
     ghost use Rattle.feed_live.specs.Ending.{SameSaved};
     ghost use Rattle.feed_live.specs.Running.{IsRelayOver};
     ghost use Rattle.feed_live.specs.Due.{IsDueInTime};
+    ghost use Rattle.feed_live.specs.Leaving.{LooksInTime, silent_at};
 
     /// What comes next.
     pub(super) fn next(&mut self, now: u64) -> Turn
@@ -80,12 +81,29 @@ impl Live {
         if let Some(at) = self.ends_at {
             return due.min(at);
         }
-        if self.source.has_servers() {
-            due = due.min(self.source.due(self.limits.screens.idle));
-            if self.source.has_more() && self.screens.says_at().is_none() {
-                due = due.min(now);
-            }
+        due.min(self.follows_at(now))
+    }
+
+    /// When the server that is followed is looked at, or the next one is asked, at the latest: at
+    /// once where there is more of it to read; never where there is no server.
+    fn follows_at(&self, now: u64) -> u64
+        ensures connects { self.now.source.upstream.follower ≡ None
+            → self.now.source.places.items ≢ [] → result ≤ self.now.source.upstream.since }
+        ensures silent { self.now.source.upstream.follower ≢ None
+            → self.now.source.places.items ≢ []
+            → result ≤ silent_at self.now.source self.now.limits.screens.idle }
+        ensures more { self.now.source.places.items ≢ [] → self.now.source.has_more ≡ true
+            → self.now.screens.saying.waits ≡ None → result ≤ now }
+        ensures looks { self.now.source.places.items ≢ [] → LooksInTime self.now.source result }
+    {
+        if !self.source.has_servers() {
+            return u64::MAX;
         }
-        due
+        let due = self.source.due(self.limits.screens.idle);
+        if self.source.has_more() && self.screens.says_at().is_none() {
+            due.min(now)
+        } else {
+            due
+        }
     }
 }

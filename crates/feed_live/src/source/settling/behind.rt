@@ -2,7 +2,8 @@
 //! a relay that lost its way, say. Then our kept commits lead from its state to ours, and nothing
 //! of it is shown.
 
-ghost use Rattle.std.specs.Prelude.{◌≡◌, false};
+ghost use Rattle.std.specs.Prelude.{◌≡◌, ◌%◌, false, true};
+ghost use Rattle.feed_live.specs.Answering.{wants_all};
 
 use crate::source::Source;
 use crate::source::settling::showing::alone;
@@ -54,6 +55,7 @@ impl Source {
         ensures times { SameTimes self.old self.new }
         ensures more { self.new.has_more ≡ self.old.has_more }
         ensures time { desk.new.time ≡ desk.old.time }
+        ensures only { result ≡ true → wants_all self.old ≡ true }
     {
         let server = self.upstream.place();
         if !self.leading.wants_all(server) {
@@ -78,6 +80,9 @@ impl Source {
         ensures at_once { self.new.upstream.since ≡ now }
         ensures heeds { HeedsTime self.old self.new now now }
         ensures refused { self.new.upstream.refused ≡ self.old.upstream.refused }
+        // it is the first of the others
+        ensures next { self.new.upstream.place
+            ≡ self.old.leading.places % self.old.upstream.places }
     {
         let other = self.leading.other();
         self.leave(link, now);

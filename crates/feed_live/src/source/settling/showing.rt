@@ -100,8 +100,8 @@ impl Source {
     /// The connection ended, or what comes on it can't be followed any more. What came afresh may
     /// be all, or the server was killed, or has a line that is none. So many bytes of it are
     /// unread. A complete body is shown where nothing is, or where it goes on from what is; else
-    /// once it ended at one token twice. What broke is shown only where nothing is, and once it
-    /// broke at one token twice: it never takes the place of anything.
+    /// once it ended at one token twice. What broke is shown where it goes on from what is, and
+    /// where nothing is once it broke at one token twice: it never takes the place of anything.
     pub(crate) fn settle_ended<L: Link>(
         &mut self,
         desk: &mut Desk,
@@ -113,9 +113,10 @@ impl Source {
         ensures shows { StillShows
             (counted_within_turn (L.exchanges link.old) self.old unread screens.old)
             self.new (L.exchanges link.new) screens.new }
-        // what is shown stays where the feed broke
+        // what is shown stays where the feed broke, and doesn't go on from that
         ensures keeps { end ≡ Broken
             → is_some (published_token self.old.answers.shown.mirror.node) ≡ true
+            → goes_on_from self.old ≡ false
             → self.new.answers.shown.mirror ≡ self.old.answers.shown.mirror }
         ensures heeds { HeedsTime self.old self.new desk.old.time desk.new.time }
         ensures calls { L.calls link.new ≡ L.calls link.old }
@@ -132,18 +133,23 @@ impl Source {
         ensures times { SameTimes self.old self.new }
         ensures broken { end ≡ Broken
             → is_some (published_token self.old.answers.shown.mirror.node) ≡ true
-            → result ≡ false }
+            → goes_on_from self.old ≡ false → result ≡ false }
     {
+        if self.coming.is_none() {
+            return false;
+        }
         let is_first = self.answers.shown.node().token().is_none();
+        let goes_on = self.goes_on();
         let was_whole = mem::replace(&mut self.ended_whole, matches!(end, End::Whole));
         let is_again = self.ends_again();
         match end {
-            End::Whole => is_first || self.goes_on() || is_again && was_whole,
-            End::Broken => is_first && is_again,
+            End::Whole => is_first || goes_on || is_again && was_whole,
+            End::Broken => goes_on || is_first && is_again,
         }
     }
 
-    /// Whether what came afresh ended where it did the last time; its last token is noted.
+    /// Whether what came afresh ended where that of the same server did the last time; its last
+    /// token is noted.
     fn ends_again(&mut self) -> bool
         ensures same { SameSource self.old self.new }
         ensures times { SameTimes self.old self.new }
@@ -152,12 +158,13 @@ impl Source {
             Some(coming) => coming.node().token(),
             None => None,
         };
+        let server = self.upstream.place();
         let again = match (token, &self.ended) {
-            (Some(token), Some(ended)) => token.text() == ended.text(),
+            (Some(token), Some((its, ended))) => *its == server && token.text() == ended.text(),
             _ => false,
         };
         self.ended = match token {
-            Some(token) => token.copy().ok(),
+            Some(token) => token.copy().ok().map(|token| (server, token)),
             None => None,
         };
         again
@@ -243,12 +250,16 @@ impl Source {
         ensures heeds { HeedsTime self.old self.new desk.old.time desk.new.time }
         ensures more { self.new.has_more ≡ self.old.has_more }
     {
+        let server = self.upstream.place();
         self.figures.change(Following::Answered, desk.time);
         desk.reports.add(Report::Settled {
-            server: self.upstream.place(),
+            server,
             time: desk.time.saturating_sub(self.settling.began),
         });
-        self.leading.show(desk, self.upstream.place());
+        if self.leading.wants_all(server) && !self.goes_on() {
+            self.leading.stand_alone();
+        }
+        self.leading.show(desk, server);
     }
 
     /// Whether what came afresh is to be shown at its own token alone. Once in a row: a server that
