@@ -74,14 +74,17 @@ impl Returning {
 
     /// One of so many servers is left for having nothing new. Once each was, a round begins only
     /// when the first one is left again, which was followed for longer. Whether that is to be
-    /// reported: not where it was, and none was lost since then.
-    fn leave_quiet(&mut self, servers: usize, is_first: bool) -> bool
+    /// reported: not where it was, and none was lost since then. One that is followed again after
+    /// that is followed anew.
+    fn leave_quiet(&mut self, servers: usize, is_first: bool, now: u64) -> bool
         ensures reported { result ≡ not self.old.was_reported }
         ensures counts { self.new ≡ record self.old {
+          since = now;
           was_reported = true;
           left_quiet = left_next self.old.left_quiet servers is_first;
         } }
     {
+        self.since = now;
         if self.left_quiet < servers {
             self.left_quiet = self.left_quiet.saturating_add(1);
         } else if is_first {
@@ -175,7 +178,9 @@ impl Source {
         ensures heeds { HeedsTime self.old self.new desk.old.time desk.new.time }
     {
         let server = self.upstream.place();
-        let is_reported = self.returning.leave_quiet(self.places.len(), server == 0);
+        let is_reported = self
+            .returning
+            .leave_quiet(self.places.len(), server == 0, desk.time);
         desk.reports.add_if(
             is_reported,
             Report::Quiet {
