@@ -290,6 +290,9 @@ pub enum Report {
     },
     /// There are as many screens as there may be: one more was answered 503.
     Full,
+    /// Screens have yet to take as many bytes of long texts as they may: one more waits for room,
+    /// or was answered 503.
+    NoRoom,
     /// No connection can be taken for a second.
     NoAccept,
     /// A screen's connection ended: it was answered with a status (0: not at all) and sent so many

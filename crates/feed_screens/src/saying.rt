@@ -132,6 +132,7 @@ impl Screens {
         ensures notes { StaysNoted self.old self.new }
     {
         self.is_full = false;
+        self.is_crowded = false;
         self.is_stuck = false;
         let counts = self.counts;
         if counts.is_none() {

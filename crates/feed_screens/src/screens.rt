@@ -37,6 +37,15 @@ pub(crate) const FULL: &[u8] = b"HTTP/1.1 503 Service Unavailable\r\n\
 Content-Type: application/json\r\nContent-Length: 41\r\nConnection: close\r\n\r\n\
 {\"code\":503,\"message\":\"too many screens\"}";
 
+/// What one more lacks.
+#[derive(Clone, Copy)]
+pub(crate) enum Lack {
+    /// There are as many screens as there may be.
+    Seat,
+    /// Screens have yet to take as many bytes of long texts as they may.
+    Room,
+}
+
 /// A connection that has a key: its place, and its key in the hub.
 #[derive(Clone, Copy)]
 pub(crate) struct Keyed {
@@ -119,6 +128,8 @@ pub struct Screens {
     pub(crate) accept_at: u64,
     /// It was reported in this minute that there are as many as there may be.
     pub(crate) is_full: bool,
+    /// It was reported in this minute that there is no room for a text.
+    pub(crate) is_crowded: bool,
     /// It was reported in this minute that nobody can be taken.
     pub(crate) is_stuck: bool,
     // where there is no connection, nothing is pending
@@ -155,6 +166,7 @@ impl Screens {
             is_waited_for: false,
             accept_at: 0,
             is_full: false,
+            is_crowded: false,
             is_stuck: false,
         }
     }

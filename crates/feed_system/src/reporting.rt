@@ -281,6 +281,10 @@ fn fixed_text(report: &Report) -> &'static str {
     match *report {
         Report::EndOfInput => "end of the input",
         Report::Full => "screens: too many, one more is answered 503",
+        Report::NoRoom => {
+            "screens: no room, slow ones have yet to take --pending bytes; one more waits, and is \
+             answered 503 after 30 s"
+        }
         Report::NoAccept => "screens: none can be taken (too many open files?), for 1 s",
         Report::NotHeard { is_settling: false } => "screens: answered 503, no upstream was heard",
         Report::NotHeard { is_settling: true } => {

@@ -14,7 +14,7 @@ ghost use Rattle.feed_screens.specs.Waiting.{IsAskingAt, IsSlow, HoldsUp, Refuse
 ghost use Rattle.feed_screens.specs.Seating.{comes_until, HasFreeSeat, HasNewKey, HasSentEnd, IsLingering};
 
 use crate::conn::{Conn, Phase};
-use crate::screens::{FULL, PIECE, Screens};
+use crate::screens::{FULL, Lack, PIECE, Screens};
 use crate::times::{ACCEPT_PAUSE, REQUEST_TIME};
 use feed_device::{Desk, How, Report, Sockets, Stop};
 use feed_hub::Key;
@@ -226,7 +226,7 @@ impl Screens {
         match self.hub.open(desk.alloc, until) {
             Ok(key) => conn.key = Some(key),
             Err(_) => {
-                self.refuse(desk, sockets, at);
+                self.refuse(desk, sockets, at, Lack::Seat);
                 conn.status = 503;
                 conn.linger(desk.time);
             }
@@ -235,7 +235,7 @@ impl Screens {
     }
 
     /// One more than there may be is answered so.
-    fn refuse<S: Sockets>(&mut self, desk: &mut Desk, sockets: &mut S, at: usize)
+    fn refuse<S: Sockets>(&mut self, desk: &mut Desk, sockets: &mut S, at: usize, lack: Lack)
         ensures asks { S.asked sockets.new ≡ S.asked sockets.old }
         ensures tries { NotCalled (S.tried sockets.old) (S.tried sockets.new) }
         ensures sent { (nodes : List NodeState) (contest came : List ℕ)
@@ -252,10 +252,28 @@ impl Screens {
         let _ = sockets.write(at, FULL);
         sockets.shut(at);
         self.totals.answer(503);
-        if !self.is_full {
-            desk.reports.add(Report::Full);
+        self.report_lack(desk, lack);
+    }
+
+    /// Reports what one more lacks, once in a minute.
+    pub(crate) fn report_lack(&mut self, desk: &mut Desk, lack: Lack)
+        ensures exact { self.new ≡ record self.old {
+          is_full = self.new.is_full;
+          is_crowded = self.new.is_crowded;
+        } }
+        ensures time { desk.new.time ≡ desk.old.time }
+    {
+        match lack {
+            Lack::Seat if !self.is_full => {
+                self.is_full = true;
+                desk.reports.add(Report::Full);
+            }
+            Lack::Room if !self.is_crowded => {
+                self.is_crowded = true;
+                desk.reports.add(Report::NoRoom);
+            }
+            _ => {}
         }
-        self.is_full = true;
     }
 
     /// A request for which there is no room is answered that there are too many. Those who take
@@ -297,7 +315,7 @@ impl Screens {
             return;
         };
         self.hub.leave(key);
-        self.refuse(desk, sockets, at);
+        self.refuse(desk, sockets, at, Lack::Room);
         self.linger(at, desk.time);
     }
 

@@ -15,7 +15,7 @@ ghost use Rattle.feed_screens.specs.Waiting.{HasNotWaited, IsOverdue, IsSlow, Ho
 ghost use Rattle.feed_screens.specs.Waiting.{AnswerWaits, HasRoom, IsAnotherNext, IsNext, IsFollowed, IsOverdueAt, IsTurnOf, IsWaiting, LacksRoom, MayShare, StaysNoted, WaitsSince, owing, owing_nothing, WantsCommit, waiting_for, waiting_no_more};
 
 use crate::conn::Wanted;
-use crate::screens::{Answers, Hearing, Keyed, Screens, Shown, TextId};
+use crate::screens::{Answers, Hearing, Keyed, Lack, Screens, Shown, TextId};
 use crate::times::ROOM_TIME;
 use feed_device::{Desk, Sockets};
 use feed_hub::{Answering, Key, LONG};
@@ -500,7 +500,8 @@ impl Screens {
         }
     }
 
-    /// Cuts those who take their texts too slowly while somebody waits for room.
+    /// Cuts those who take their texts too slowly while somebody waits for room, and reports that
+    /// there is none.
     pub fn cut_for_room<S: Sockets>(&mut self, desk: &mut Desk, sockets: &mut S)
         ensures serving { StillServesAll self.old self.new
             (S.socket sockets.old) (S.socket sockets.new) }
@@ -518,6 +519,7 @@ impl Screens {
     {
         if self.is_waited {
             self.has_more = true;
+            self.report_lack(desk, Lack::Room);
             self.cut_slow(desk, sockets);
         }
     }
