@@ -79,9 +79,9 @@ IsSeatNotBehind place (Asks asking) = Unit {0}
 IsSeatNotBehind place (Watches s) = IsNotBehind place s.way
 
 -- a request that still has time; or a screen that takes the bytes that it has of its own
-abbrev pub IsOnTime : ℕ → ℕ → Seat → Type 0
-IsOnTime now stall (Asks asking) = now < asking.until
-IsOnTime now stall (Watches s) = IsMoving now stall s
+abbrev pub IsOnTime : ℕ → ℕ → ℕ → Seat → Type 0
+IsOnTime now stall mark (Asks asking) = now < asking.until
+IsOnTime now stall mark (Watches s) = IsMoving now stall mark s
 
 -- ---- what of the log is needed
 

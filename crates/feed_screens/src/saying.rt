@@ -409,8 +409,8 @@ impl Screens {
     /// Cuts requests that are late, and screens that took nothing for too long.
     pub fn cut_late(&mut self, now: u64)
         ensures serving { StillStand self.old self.new }
-        ensures cuts { KeepsThose (IsOnTime now 60000) self.old.hub.seats.slab
-            self.new.hub.seats.slab }
+        ensures cuts { KeepsThose (IsOnTime now 60000 self.new.hub.turn.mark.place)
+            self.old.hub.seats.slab self.new.hub.seats.slab }
         ensures to_do { SameToDo self.old self.new }
     {
         self.hub.cut_late(now, STALL);

@@ -9,7 +9,9 @@ ghost use Rattle.feed_hub.specs.Steps.{idled, taken, HasNext, IsCatchingUp, IsWa
 ghost use Rattle.feed_hub.specs.Answering.{NumbersText};
 ghost use Rattle.feed_hub.specs.Asking.{IsSeatFull};
 ghost use Rattle.feed_hub.specs.Seats.{seat_at, Others, SameSeats, KeepsThose, IsOnTime, Watched, IsWatcher, IsAskingSeat, IsOverSeat};
+ghost use Rattle.feed_hub.specs.Backlog.{end_of};
 ghost use Rattle.feed_hub.specs.Frames.{is_since};
+ghost use Rattle.feed_hub.specs.Turn.{marked};
 ghost use Rattle.feed_hub.specs.Hub.{IsSeated, IsStillSeated, IsAnsweredBy, prefix_at, SameLimits, ChangesOnly, IsNew, TakesOfHead, IsAnswered, SharesTheText, HearsOf, HearsAt, HoldsAt, TellsTextAt, Refills};
 
 use crate::answering::Answering;
@@ -407,15 +409,21 @@ impl Hub {
         self.seats.leave(key);
     }
 
-    /// Cuts each connection whose request is late, and each screen that has bytes of its own and
-    /// took none of them for a time, wherever it stands.
+    /// Cuts each connection whose request is late, and each screen that took nothing for a time
+    /// though it has bytes of its own, or lacks some that all were sent as long ago.
     pub fn cut_late(&mut self, now: u64, stall: u64)
-        ensures cuts { KeepsThose (IsOnTime now stall) self.old.seats.slab self.new.seats.slab }
+        ensures cuts { KeepsThose (IsOnTime now stall self.new.turn.mark.place)
+            self.old.seats.slab self.new.seats.slab }
         ensures broadcast { self.new.broadcast ≡ self.old.broadcast }
         ensures next { self.new.seats.next ≡ self.old.seats.next }
-        ensures turn { self.new.turn ≡ self.old.turn }
+        ensures turn { self.new.turn ≡ record self.old.turn {
+          mark = marked self.old.turn.mark now stall (end_of self.old.broadcast.log);
+        } }
         ensures limits { SameLimits self.old self.new }
     {
-        self.seats.cut_late(now, stall);
+        let end = self.broadcast.log().end();
+        let mark = self.turn.mark.at(now, stall, end);
+        self.turn.mark = mark;
+        self.seats.cut_late(now, stall, mark.place);
     }
 }
