@@ -1,5 +1,5 @@
 -- Why a state is none of the primary's.
-use Rattle.std.proofs.Common.{◌≡◌, ◌≢◌, refl, sym, ap, ◌∙◌, subst, ℕ, true≢false, List, [], ◌∷◌, ◌++◌, Option, None, Some}
+use Rattle.std.proofs.Common.{◌≡◌, ◌≢◌, ◌≤◌, refl, sym, ap, ◌∙◌, subst, ℕ, true≢false, List, [], ◌∷◌, ◌++◌, length, Option, None, Some}
 use Rattle.std.specs.Prelude.{IfSome, IsSome}
 use Rattle.feed_settings.specs.Limits.{Limits}
 use Rattle.feed_note.specs.Meaning.{OnlyOne}
@@ -7,53 +7,92 @@ use Rattle.feed_node.specs.Publishing.{Published}
 use Rattle.feed_note.specs.declared.line.Line.{Line}
 use Rattle.feed_node.specs.Mirroring.{MirrorState, first_opening}
 use Rattle.feed_node.specs.Reading.{AllGood}
-use Rattle.feed_node.specs.States.{NodeState}
-use Rattle.feed_audit.specs.Differences.{TellsDifference, Explains, IsFirstUnder}
+use Rattle.feed_node.specs.States.{NodeState, token_of}
+use Rattle.feed_audit.specs.Differences.{TellsDifference, TellsEnd, EndsAt, LacksToken, Explains, IsFirstUnder}
 use Rattle.feed_audit.specs.States.{afresh, IsStateOf}
 use Rattle.feed_audit.specs.Walks.{Walked, ReadsMore, GoesToEnd, AllAre}
 use Rattle.feed_audit.specs.declared.difference.Difference.{Difference}
-use Rattle.feed_audit.specs.declared.difference.Difference.TheVariants.{NoToken, At, Same}
+use Rattle.feed_audit.specs.declared.difference.Difference.TheVariants.{NoToken, Ended, At, Same}
 use Rattle.feed_audit.proofs.Agreeing.{agree_by, all_lines, good_of, state_of}
 use Rattle.feed_audit.proofs.Bringing.{brings}
-use Rattle.feed_audit.proofs.Walking.{all_end, all_goes}
+use Rattle.feed_text.specs.Limits.{line_bytes}
+use Rattle.feed_audit.proofs.Walking.{all_end, all_goes, published_is}
 
 -- what was read of the primary's publishes no such token
 abbrev pub Lacks : Limits → List ℕ → List ℕ → ℕ → MirrorState → Published → Type 0
 Lacks limits primary behind count mirror state =
     (notes : List Line) × Walked (afresh limits) primary behind notes count mirror × AllAre (afresh limits) (λ shown. shown.token ≢ state.token) notes
 
-pub no_token : OnlyOne → (limits : Limits) (primary left : List ℕ) (count new_count : ℕ) (old new : MirrorState) (state : Published)
-    (l : Lacks limits primary left count old state) → GoesToEnd (afresh limits) primary l.0 new_count new → Explains limits primary state NoToken
-no_token only limits primary left count new_count old new state l g shown is =
+-- it was read to its end, and this is what it publishes last
+ends_at : (limits : Limits) (primary : List ℕ) (notes : List Line) (count : ℕ) (new : MirrorState) → GoesToEnd (afresh limits) primary notes count new
+    → EndsAt limits primary (token_of new.node.published)
+ends_at limits primary notes count new g =
+    let w = g.passes.walked in
+    let said = notes ++ g.passes.more in
+    let all = all_lines (afresh limits) primary g.behind said count new w g.part in
+    record {
+      notes = said;
+      read = record {
+        good = subst (λ ls. AllGood limits first_opening ls said) (sym all.0) (good_of (afresh limits) primary g.behind said count new w);
+        short = subst (λ r. length r ≤ line_bytes) (sym all.1) g.short;
+      };
+      shown = ap token_of (published_is (afresh limits) primary g.behind said count new w);
+    }
+
+-- no state of it has the token
+no_state : OnlyOne → (limits : Limits) (primary left : List ℕ) (count new_count : ℕ) (old new : MirrorState) (state : Published)
+    (l : Lacks limits primary left count old state) → GoesToEnd (afresh limits) primary l.0 new_count new
+    → (shown : Published) → IsStateOf limits primary shown → shown.token ≢ state.token
+no_state only limits primary left count new_count old new state l g shown is =
     let notes = l.0 ++ g.passes.more in
     let all = all_lines (afresh limits) primary g.behind notes new_count new g.passes.walked g.part in
     agree_by only (afresh limits) (λ (s : Published). s.token ≢ state.token) primary notes
     (subst (λ ls. AllGood limits first_opening ls notes) (sym all.0) (good_of (afresh limits) primary g.behind notes new_count new g.passes.walked))
     (all_end (afresh limits) (λ (s : Published). s.token ≢ state.token) l.0 g.passes.more l.2 g.passes.quiet) shown is
 
+pub no_token : OnlyOne → (limits : Limits) (primary left : List ℕ) (count new_count : ℕ) (old new : MirrorState) (state : Published) (before : Option (List ℕ)) (node : NodeState)
+    (told : Difference) (l : Lacks limits primary left count old state) → GoesToEnd (afresh limits) primary l.0 new_count new → node ≡ new.node
+    → TellsEnd before (token_of node.published) told → Explains limits primary before state told
+no_token only limits primary left count new_count old new state before node told l g same tells = by told tells
+  where
+    lacks : (t : Difference) → TellsEnd before (token_of node.published) t → LacksToken limits primary before state t
+    lacks t tell = record {
+      none = no_state only limits primary left count new_count old new state l g;
+      last = token_of node.published;
+      ends = subst (λ (n : NodeState). EndsAt limits primary (token_of n.published)) (sym same) (ends_at limits primary l.0 new_count new g);
+      tells = tell;
+    }
+
+    by : (t : Difference) → TellsEnd before (token_of node.published) t → Explains limits primary before state t
+    by NoToken tell = lacks NoToken tell
+    by (Ended last) tell = lacks (Ended last) tell
+    by (At kind id side there) tell = absurd tell
+    by Same tell = absurd tell
+
 pub some_is : (o : Option Published) → IsSome o → (shown : Published) × (o ≡ Some shown)
 some_is None h = absurd (true≢false (sym h))
 some_is (Some shown) h = (shown, refl)
 
-explains : (limits : Limits) (primary : List ℕ) (state shown : Published) (told : Difference) → IsFirstUnder limits primary state.token shown
-    → ¬ (shown ≡ state) → TellsDifference shown.tables state.tables told → Explains limits primary state told
-explains limits primary state shown NoToken is other t = absurd t
-explains limits primary state shown (At kind id side there) is other t = (shown, is, t)
-explains limits primary state shown Same is other t =
+explains : (limits : Limits) (primary : List ℕ) (before : Option (List ℕ)) (state shown : Published) (told : Difference) → IsFirstUnder limits primary state.token shown
+    → ¬ (shown ≡ state) → TellsDifference shown.tables state.tables told → Explains limits primary before state told
+explains limits primary before state shown NoToken is other t = absurd t
+explains limits primary before state shown (Ended last) is other t = absurd t
+explains limits primary before state shown (At kind id side there) is other t = (shown, is, t)
+explains limits primary before state shown Same is other t =
     absurd (other (λ i. record { tables = t i; token = is.named i }))
 
-pub found_token : OnlyOne → (limits : Limits) (primary left behind : List ℕ) (count new_count : ℕ) (old new : MirrorState) (node : NodeState) (state : Published) (told : Difference)
+pub found_token : OnlyOne → (limits : Limits) (primary left behind : List ℕ) (count new_count : ℕ) (old new : MirrorState) (node : NodeState) (before : Option (List ℕ)) (state : Published) (told : Difference)
     (l : Lacks limits primary left count old state) → ReadsMore (afresh limits) primary behind l.0 new_count new → IsSome new.node.published → node ≡ new.node
     → ¬ (IsStateOf limits primary state)
     → ((shown : Published) → node.published ≡ Some shown → shown.token ≡ state.token)
     → ((shown : Published) → node.published ≡ Some shown → TellsDifference shown.tables state.tables told)
-    → Explains limits primary state told
-found_token only limits primary left behind count new_count old new node state told l g some is strange same tells =
+    → Explains limits primary before state told
+found_token only limits primary left behind count new_count old new node before state told l g some is strange same tells =
     let its = some_is new.node.published some in
     let here = ap (λ (n : NodeState). n.published) is ∙ its.1 in
     let line = brings only (afresh limits) (λ (s : Published). s.token ≢ state.token) primary behind l.0 new_count new its.0 l.2 g its.1 in
     let shown = state_of (afresh limits) primary behind (l.0 ++ (g.before ++ g.note ∷ [])) new_count new its.0 g.walked its.1 in
-    explains limits primary state its.0 told
+    explains limits primary before state its.0 told
     (record {
       earlier = line.earlier;
       line = line.line;

@@ -20,7 +20,7 @@ use Rattle.feed_audit.specs.States.{Start, afresh, published_from, IsStateOf}
 use Rattle.feed_audit.specs.Walks.{Walked, ReadsMore, GoesToEnd, AllAre, IsSince, Finds}
 use Rattle.feed_audit.proofs.Agreeing.{agree_by, good_of, state_of, all_lines}
 use Rattle.feed_audit.proofs.Bringing.{brings}
-use Rattle.feed_audit.proofs.Walking.{all_end, all_goes}
+use Rattle.feed_audit.proofs.Walking.{all_end, all_goes, published_is}
 
 -- the screen's text was read so far, and its states are the primary's
 pub record Agrees (start : Start) (primary screen behind : List ℕ) (count states : ℕ) (mirror : MirrorState) : Type 0 where
@@ -112,9 +112,10 @@ named (Some state) token e = (state, refl, cc)
 pub straying : OnlyOne → (start : Start) (primary screen left behind : List ℕ) (count states : ℕ) (old new : MirrorState) (wanted shown : NodeState) (stray : Stray)
     (a : Agrees start primary screen left count states old) → ReadsMore start screen behind a.notes stray.line new → wanted ≡ new.node → shown ≡ new.node
     → IsStrange start.limits primary wanted → Some stray.token ≡ token_of shown.published
-    → (asked : NodeState) → asked ≡ new.node → ((state : Published) → asked.published ≡ Some state → Explains start.limits primary state stray.difference)
+    → (asked : NodeState) → asked ≡ new.node → (before : Option (List ℕ)) → before ≡ token_of old.node.published
+    → ((state : Published) → asked.published ≡ Some state → Explains start.limits primary before state stray.difference)
     → stray.before ≡ states → StrayingFrom start primary screen stray
-straying only start primary screen left behind count states old new wanted shown stray a g is also strange token asked same why states_are =
+straying only start primary screen left behind count states old new wanted shown stray a g is also strange token asked same before before_is why states_are =
     let its = named shown.published stray.token token in
     let shows : new.node.published ≡ Some its.0 = sym (ap (λ (n : NodeState). n.published) also) ∙ its.1 in
     let here = brings only start (IsStateOf start.limits primary) screen behind a.notes stray.line new its.0 a.all g shows in
@@ -132,5 +133,7 @@ straying only start primary screen left behind count states old new wanted shown
       is = here.is;
       named = its.2;
       strays = strange its.0 (ap (λ (n : NodeState). n.published) is ∙ shows);
-      explained = why its.0 (ap (λ (n : NodeState). n.published) same ∙ shows);
+      explained = subst (λ t. Explains start.limits primary t its.0 stray.difference)
+          (before_is ∙ ap token_of (published_is start screen left a.notes count old a.walked ∙ sym (g.quiet g.before [] (sym (append-nil g.before)))))
+          (why its.0 (ap (λ (n : NodeState). n.published) same ∙ shows));
     }

@@ -6,11 +6,11 @@ use Rattle.feed_node.specs.Publishing.{Published}
 use Rattle.feed_note.specs.declared.line.Line.{Line}
 use Rattle.feed_node.specs.Mirroring.{MirrorState, first_opening, mirror_after, present_opening, publications}
 use Rattle.feed_node.specs.Reading.{AllGood, Reads}
-use Rattle.feed_node.specs.States.{NodeState}
+use Rattle.feed_node.specs.States.{NodeState, token_of}
 use Rattle.feed_node.specs.declared.fault.FeedFault.{FeedFault}
 use Rattle.feed_audit.specs.Differences.{Explains}
 use Rattle.feed_records.specs.Fronts.{IsLeft}
-use Rattle.feed_audit.specs.States.{Start, afresh, IsStateFrom, IsStateOf, AgreesFrom}
+use Rattle.feed_audit.specs.States.{Start, afresh, published_from, IsStateFrom, IsStateOf, AgreesFrom}
 use Rattle.feed_audit.specs.Stops.{IsOfRecord}
 use Rattle.feed_audit.specs.Walks.{Walked, AllAre, FaultsIn, FaultsFirst}
 use Rattle.feed_audit.specs.declared.verdict.AuditFault.{AuditFault}
@@ -45,7 +45,8 @@ pub record StrayingFrom (start : Start) (primary screen : List ℕ) (stray : Str
   pub is : IsStateFrom start (ended (earlier ++ line ∷ [])) state
   pub named : stray.token ≡ state.token
   pub strays : ¬ (IsStateOf start.limits primary state)
-  pub explained : Explains start.limits primary state stray.difference
+  pub explained : Explains start.limits primary (token_of (published_from start notes)) state
+      stray.difference
 
 abbrev pub IsVerdictFrom : Start → List ℕ → List ℕ → Verdict → Type 0
 IsVerdictFrom start primary screen (verdict.Agrees states) =

@@ -5,13 +5,17 @@ use Rattle.std.specs.FinMap.{get}
 use Rattle.feed_settings.specs.Limits.{Limits}
 use Rattle.feed_tables.specs.Tables.{Contents, object_at, singleton_at, collection_of}
 use Rattle.feed_note.specs.Lines.{lines, ended}
+use Rattle.feed_note.specs.declared.line.Line.{Line}
+use Rattle.feed_node.specs.Mirroring.{first_opening}
 use Rattle.feed_node.specs.Publishing.{Published}
+use Rattle.feed_node.specs.Reading.{Reads}
+use Rattle.feed_node.specs.States.{token_of}
 use Rattle.feed_audit.specs.Places.{PlaceAt, place_order}
-use Rattle.feed_audit.specs.States.{IsStateOf}
+use Rattle.feed_audit.specs.States.{IsStateOf, published_after}
 use Rattle.feed_audit.specs.declared.difference.Side.{Side}
 use Rattle.feed_audit.specs.declared.difference.Side.TheVariants.{Nothing, Object, Collection}
 use Rattle.feed_audit.specs.declared.difference.Difference.{Difference}
-use Rattle.feed_audit.specs.declared.difference.Difference.TheVariants.{NoToken, At, Same}
+use Rattle.feed_audit.specs.declared.difference.Difference.TheVariants.{NoToken, Ended, At, Same}
 
 abbrev pub object_side : Option (List ℕ) → Side
 object_side None = Nothing
@@ -50,6 +54,7 @@ pub record DifferAt (contents others : Contents) (kind : List ℕ) (id : Option 
 -- it is told where they differ, or that they are the same
 abbrev pub TellsDifference : Contents → Contents → Difference → Type 0
 TellsDifference contents others NoToken = ⊥
+TellsDifference contents others (Ended last) = ⊥
 TellsDifference contents others (At kind id side other) =
     DifferAt contents others kind id side other
 TellsDifference contents others Same = contents ≡ others
@@ -65,12 +70,38 @@ pub record IsFirstUnder (limits : Limits) (primary : List ℕ) (token : List ℕ
   pub is : IsStateOf limits (ended (earlier ++ line ∷ [])) shown
   pub named : shown.token ≡ token
 
--- the primary has no state under the token; or the first that it has differs from this one, at
--- first here
-abbrev pub Explains : Limits → List ℕ → Published → Difference → Type 0
-Explains limits primary state NoToken =
-    (shown : Published) → IsStateOf limits primary shown → shown.token ≢ state.token
-Explains limits primary state (At kind id side other) =
+-- nothing is wrong with the text, and the last state that it publishes, if any, has this token
+pub record EndsAt (limits : Limits) (text : List ℕ) (last : Option (List ℕ)) : Type 0 where
+  pub notes : List Line
+  pub read : Reads limits first_opening text notes
+  pub shown : last ≡ token_of (published_after limits notes)
+
+-- the screen showed the last state just before, or there is no state at all
+abbrev pub GoesOnBehind : Option (List ℕ) → Option (List ℕ) → Type 0
+GoesOnBehind before None = Unit {0}
+GoesOnBehind before (Some last) = before ≡ Some last
+
+-- it is told whether the screen does so, of a text that ends with such a state
+abbrev pub TellsEnd : Option (List ℕ) → Option (List ℕ) → Difference → Type 0
+TellsEnd before last NoToken = ¬ (GoesOnBehind before last)
+TellsEnd before last (Ended token) = (token ≡ last) × GoesOnBehind before last
+TellsEnd before last other = ⊥
+
+-- the primary has no state under the token, and it is told whether its text ends too soon
+pub record LacksToken (limits : Limits) (primary : List ℕ) (before : Option (List ℕ))
+    (state : Published) (told : Difference) : Type 0 where
+  pub none : (shown : Published) → IsStateOf limits primary shown → shown.token ≢ state.token
+  pub last : Option (List ℕ)
+  pub ends : EndsAt limits primary last
+  pub tells : TellsEnd before last told
+
+-- the primary has no state under the token, and the screen showed one with that other token before;
+-- or the first that the primary has differs from this one, at first here
+abbrev pub Explains : Limits → List ℕ → Option (List ℕ) → Published → Difference → Type 0
+Explains limits primary before state NoToken = LacksToken limits primary before state NoToken
+Explains limits primary before state (Ended last) =
+    LacksToken limits primary before state (Ended last)
+Explains limits primary before state (At kind id side other) =
     (shown : Published) × IsFirstUnder limits primary state.token shown
     × DifferAt shown.tables state.tables kind id side other
-Explains limits primary state Same = ⊥
+Explains limits primary before state Same = ⊥

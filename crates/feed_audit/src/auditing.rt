@@ -20,7 +20,17 @@ use feed_node::{Limits, Mirror, Node};
 use feed_note::line_laws;
 use feed_records::{Lines, Replayed, TextLines};
 use feed_tables::Name;
-use std::alloc::Global;
+use std::alloc::{AllocError, Global};
+
+/// The token that a node publishes, where it publishes one.
+fn shown_by(node: &Node) -> Result<Option<Name>, AllocError>
+    ensures { IfOk result (λ token. token ≡ published_token node.now.shown) }
+{
+    match node.token() {
+        Some(token) => Ok(Some(token.copy()?)),
+        None => Ok(None),
+    }
+}
 
 // The token that a node publishes.
 fn token_of(node: &Node) -> Result<Name, AuditFault>
@@ -160,6 +170,7 @@ pub(crate) fn audit_on<P: Replayed, L: Lines>(
     let mut since = Since::unknown(alloc);
     let mut states: usize = 0;
     'states: loop {
+        let before = shown_by(theirs.node())?;
         match next_state(alloc, theirs, screen, &mut lines) {
             Err(stop) => return Err(of_screen(stop, lines)),
             Ok(false) => return Ok(Verdict::Agrees(states)),
@@ -167,7 +178,7 @@ pub(crate) fn audit_on<P: Replayed, L: Lines>(
                 let wanted = theirs.node();
                 since.note_theirs(wanted)?;
                 if !locate(alloc, limits, primary, &mut ours, wanted, &mut since)? {
-                    let difference = explain(alloc, limits, primary, wanted)?;
+                    let difference = explain(alloc, limits, primary, &before, wanted)?;
                     return Ok(Verdict::Strays(Stray {
                         token: token_of(wanted)?,
                         before: states,
@@ -175,6 +186,8 @@ pub(crate) fn audit_on<P: Replayed, L: Lines>(
                         difference,
                     }));
                 }
+                // By a call: one that goes out of scope is a case for each kind of token.
+                drop(before);
                 since.meet();
                 states = states.saturating_add(1);
             }

@@ -27,6 +27,9 @@ pub enum Side {
 pub enum Difference {
     /// The primary has no state under its token.
     NoToken,
+    /// The same, and the primary's record may end too soon to tell: its last state is the one that
+    /// the screen showed before, with this token, or it has none.
+    Ended(Option<Name>),
     /// The first of the primary's states under its token differs from it here: at a type, or at an
     /// id in its collection. In byte order it is the first such place.
     At {

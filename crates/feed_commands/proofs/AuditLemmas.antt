@@ -1,7 +1,9 @@
 -- Lemmas on what the command `audit` prints.
-use Rattle.std.proofs.Common.{◌≡◌, refl, sym, subst, inl, inr, List, ℕ, Option, Some, None, Result, Ok, Err, IfErr, OnOk, OnErr}
+use Rattle.std.proofs.Common.{◌≡◌, refl, sym, ap, subst, inl, inr, List, ℕ, Option, Some, None, Result, Ok, Err, IfErr, OnOk, OnErr}
 use Rattle.std.specs.Io.KnownBytes.{Appends, Keeps}
-use Rattle.feed_audit.specs.Records.{IsRecordVerdict}
+use Rattle.feed_audit.specs.Records.{IsRecordVerdict, RecordStrays}
+use Rattle.feed_audit.specs.declared.difference.Difference.{Difference}
+use Rattle.feed_audit.specs.declared.difference.Difference.TheVariants as difference
 use Rattle.feed_audit.specs.declared.verdict.AuditFault.{AuditFault}
 use Rattle.feed_audit.specs.declared.verdict.AuditFault.TheVariants as audit
 use Rattle.feed_audit.specs.declared.verdict.Stray.{Stray}
@@ -9,7 +11,7 @@ use Rattle.feed_audit.specs.declared.verdict.Verdict.{Verdict}
 use Rattle.feed_audit.specs.declared.verdict.Verdict.TheVariants as verdict
 use Rattle.feed_http.specs.Device.{AppendsPrefix}
 use Rattle.feed_arguments.specs.declared.request.AuditOptions.{AuditOptions}
-use Rattle.feed_commands.specs.Audit.{stray_printed, AuditFails, FailsToCompare, PrintsAgreement, TellsAgreement}
+use Rattle.feed_commands.specs.Audit.{stray_printed, stray_fault, AuditFails, FailsToCompare, PrintsAgreement, TellsAgreement, TellsStray}
 use Rattle.feed_commands.specs.Fault.{fault_of_audit}
 use Rattle.feed_commands.specs.declared.fault.Fault.{Fault}
 use Rattle.feed_commands.specs.declared.fault.Fault.TheVariants as fault
@@ -38,7 +40,23 @@ module _ (options : AuditOptions) (primary screen : List ℕ) (old new : Option 
       → AuditFails options primary screen why old new
   stray_prefix why found stray text failed is found_is told printed =
       subst (λ w. AuditFails options primary screen w old new) (sym failed)
-      (text, inr (record { stray = stray; strays = subst (IsRecordVerdict options.limits primary screen) is found_is; text_is = told }), printed)
+      (text, inr (stray_fault stray.difference, record { stray = stray; strays = subst (IsRecordVerdict options.limits primary screen) is found_is; why_is = refl; text_is = told }), printed)
+
+  -- it was printed
+  pub stray_fails : (why : Fault) (stray : Stray) (text : List ℕ) → why ≡ stray_fault stray.difference
+      → RecordStrays options.limits primary screen stray → text ≡ stray_printed options.json options.verbose stray → Appends old new text
+      → AuditFails options primary screen why old new
+  stray_fails why stray text why_is strays told printed =
+      subst (λ w. AuditFails options primary screen w old new) (sym why_is) (by stray.difference refl)
+    where
+      tells : (w : Fault) → w ≡ stray_fault stray.difference → TellsStray options primary screen w text
+      tells w is = record { stray = stray; strays = strays; why_is = is; text_is = told }
+
+      by : (d : Difference) → stray.difference ≡ d → AuditFails options primary screen (stray_fault d) old new
+      by difference.NoToken e = (text, tells fault.Differs (sym (ap stray_fault e)), printed)
+      by (difference.Ended last) e = (text, tells fault.Ended (sym (ap stray_fault e)), printed)
+      by (difference.At kind id side other) e = (text, tells fault.Differs (sym (ap stray_fault e)), printed)
+      by difference.Same e = (text, tells fault.Differs (sym (ap stray_fault e)), printed)
 
   -- an agreement was printed
   pub agreement_printed : {A E : Type 0} (result : Result A E) (text : List ℕ) → TellsAgreement options primary screen text

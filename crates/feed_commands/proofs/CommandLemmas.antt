@@ -23,6 +23,7 @@ device_by (Err (fault.Batches why)) s reads writes none = tt
 device_by (Err (fault.Play why)) s reads writes none = tt
 device_by (Err (fault.Audit why)) s reads writes none = tt
 device_by (Err fault.Differs) s reads writes none = tt
+device_by (Err fault.Ended) s reads writes none = tt
 device_by (Err fault.Unpublished) s reads writes none = tt
 device_by (Err fault.NoToken) s reads writes none = tt
 device_by (Err (fault.Place why)) s reads writes none = tt

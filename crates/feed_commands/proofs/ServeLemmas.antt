@@ -208,6 +208,7 @@ ends_later (fault.Batches why) start mid now before after = absurd after
 ends_later (fault.Play why) start mid now before after = absurd after
 ends_later (fault.Audit why) start mid now before after = absurd after
 ends_later fault.Differs start mid now before after = absurd after
+ends_later fault.Ended start mid now before after = absurd after
 ends_later fault.Unpublished start mid now before after = absurd after
 ends_later fault.NoToken start mid now before after = absurd after
 ends_later (fault.Place why) start mid now before after = absurd after

@@ -182,6 +182,7 @@ err_by limits s (Err (fault.Batches why)) d = absurd d.whole.fed
 err_by limits s (Err (fault.Play why)) d = absurd d.whole.fed
 err_by limits s (Err (fault.Audit why)) d = absurd d.whole.fed
 err_by limits s (Err fault.Differs) d = absurd d.whole.fed
+err_by limits s (Err fault.Ended) d = absurd d.whole.fed
 err_by limits s (Err fault.Unpublished) d = absurd d.whole.fed
 err_by limits s (Err fault.NoToken) d = absurd d.whole.fed
 err_by limits s (Err (fault.Place why)) d = absurd d.whole.fed

@@ -7,6 +7,8 @@ use Rattle.feed_audit.specs.Stops.{IsUnread}
 use Rattle.feed_verdicts.specs.Verdicts.{agreement_text, agreement_json, stray_text, stray_json}
 use Rattle.feed_records.specs.declared.reading.Unread.{Unread}
 use Rattle.feed_audit.specs.declared.verdict.AuditFault.{AuditFault}
+use Rattle.feed_audit.specs.declared.difference.Difference.{Difference}
+use Rattle.feed_audit.specs.declared.difference.Difference.TheVariants as difference
 use Rattle.feed_audit.specs.declared.verdict.Stray.{Stray}
 use Rattle.feed_http.specs.Device.{AppendsPrefix}
 use Rattle.feed_arguments.specs.declared.request.AuditOptions.{AuditOptions}
@@ -32,6 +34,11 @@ abbrev pub IsUnreadRecord : (Unread → Type 0) → (Unread → Type 0) → Faul
 IsUnreadRecord primary screen (fault.Audit why) = IsUnread primary screen why
 IsUnreadRecord primary screen why = Unit {0}
 
+-- how the command fails after a state that is none of the primary's
+abbrev pub stray_fault : Difference → Fault
+stray_fault (difference.Ended last) = fault.Ended
+stray_fault other = fault.Differs
+
 module _ (options : AuditOptions) (primary screen : List ℕ) where
   -- nothing is wrong with the records, each state of the screen's is one of the primary's, and the
   -- text tells how many they are, one or more
@@ -43,10 +50,12 @@ module _ (options : AuditOptions) (primary screen : List ℕ) where
     pub has : HasStates options.limits primary all
     pub text_is : text ≡ agreement_printed options.json states all
 
-  -- this state of the screen's is the first that is none of the primary's, and the text tells it
-  pub record TellsStray (text : List ℕ) : Type 0 where
+  -- this state of the screen's is the first that is none of the primary's, the text tells it, and
+  -- the command fails so
+  pub record TellsStray (why : Fault) (text : List ℕ) : Type 0 where
     pub stray : Stray
     pub strays : RecordStrays options.limits primary screen stray
+    pub why_is : why ≡ stray_fault stray.difference
     pub text_is : text ≡ stray_printed options.json options.verbose stray
 
   -- the records agree, and that was printed
@@ -64,11 +73,15 @@ module _ (options : AuditOptions) (primary screen : List ℕ) where
 
   -- what was printed where the command fails
   abbrev pub AuditFails : Fault → Option (List ℕ) → Option (List ℕ) → Type 0
-  AuditFails fault.Differs old new = (text : List ℕ) × TellsStray text × Appends old new text
+  AuditFails fault.Differs old new =
+      (text : List ℕ) × TellsStray fault.Differs text × Appends old new text
+  AuditFails fault.Ended old new =
+      (text : List ℕ) × TellsStray fault.Ended text × Appends old new text
   AuditFails fault.Unpublished old new =
       RecordAgrees options.limits primary screen 0 × Keeps old new
   AuditFails (fault.Audit why) old new = FailsToCompare why × Keeps old new
   AuditFails fault.Write old new =
-      (text : List ℕ) × (TellsAgreement text ⊎ TellsStray text) × AppendsPrefix old new text
+      (text : List ℕ) × (TellsAgreement text ⊎ ((why : Fault) × TellsStray why text))
+      × AppendsPrefix old new text
   AuditFails fault.Memory old new = Keeps old new
   AuditFails why old new = ⊥

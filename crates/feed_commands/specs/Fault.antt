@@ -99,8 +99,8 @@ status_of_audit (audit.ScreenUnread unread.Failed) = 4
 status_of_audit why = 2
 
 -- 5 for want of memory, 4 for a device's fault, 2 for a faulty input or response and for records
--- that differ, 3 where nothing is published or no state has the token, 1 for servers that can't be
--- named so
+-- that differ, 3 where nothing is published, no state has the token or a record ends too soon, 1 for
+-- servers that can't be named so
 abbrev pub status_of : Fault → ℕ
 status_of fault.Memory = 5
 status_of fault.Read = 4
@@ -113,6 +113,7 @@ status_of (fault.Batches why) = 2
 status_of (fault.Play why) = if is_play_memory why.cause then 5 else 2
 status_of (fault.Audit why) = status_of_audit why
 status_of fault.Differs = 2
+status_of fault.Ended = 3
 status_of fault.Unpublished = 3
 status_of fault.NoToken = 3
 status_of (fault.Place why) = 1

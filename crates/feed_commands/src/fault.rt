@@ -69,6 +69,9 @@ pub enum Fault {
     /// A state of the screen's record is none of the primary's.
     #[error("the records differ")]
     Differs,
+    /// The primary's record has no such state as the screen's, and may have ended before it.
+    #[error("the primary's record ends too soon")]
+    Ended,
     /// The input, or what was followed, has ended, and nothing was published.
     #[error("nothing published")]
     Unpublished,
@@ -107,7 +110,7 @@ impl Fault {
                 | AuditFault::ScreenUnread(Unread::Failed),
             ) => 4,
             Fault::Play(_) | Fault::Audit(_) | Fault::Differs => 2,
-            Fault::Unpublished | Fault::NoToken => 3,
+            Fault::Ended | Fault::Unpublished | Fault::NoToken => 3,
             Fault::Place(_) | Fault::Address(_) => REFUSED,
             Fault::Commit(_) => 2,
             Fault::Network(NetworkFault::Engine(EngineFault::Commit(_) | EngineFault::Follow(_))) =>

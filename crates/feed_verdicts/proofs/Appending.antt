@@ -11,8 +11,11 @@ on_ok_extended (Err x) n m q w e f = tt
 more : (o m w q : List ℕ) → m ≡ o ++ w → m ++ q ≡ o ++ (w ++ q)
 more o m w q e = ap (λ l. l ++ q) e ∙ append_assoc o w q
 
+pub parts3 : (o n1 n2 a b c : List ℕ) → n1 ≡ o ++ a → n2 ≡ n1 ++ b → n2 ++ c ≡ o ++ (a ++ b ++ c)
+parts3 o n1 n2 a b c e1 e2 = more o n2 (a ++ b) c (e2 ∙ more o n1 a b e1)
+
 pub parts4 : (o n1 n2 n3 a b c d : List ℕ) → n1 ≡ o ++ a → n2 ≡ n1 ++ b → n3 ≡ n2 ++ c → n3 ++ d ≡ o ++ (a ++ b ++ c ++ d)
-parts4 o n1 n2 n3 a b c d e1 e2 e3 = more o n3 (a ++ b ++ c) d (e3 ∙ more o n2 (a ++ b) c (e2 ∙ more o n1 a b e1))
+parts4 o n1 n2 n3 a b c d e1 e2 e3 = more o n3 (a ++ b ++ c) d (e3 ∙ parts3 o n1 n2 a b c e1 e2)
 
 pub parts5 : (o n1 n2 n3 n4 a b c d e : List ℕ) → n1 ≡ o ++ a → n2 ≡ n1 ++ b → n3 ≡ n2 ++ c → n4 ≡ n3 ++ d
     → n4 ++ e ≡ o ++ (a ++ b ++ c ++ d ++ e)

@@ -6,7 +6,7 @@ use Rattle.feed_note.specs.Written.{written_name}
 use Rattle.feed_audit.specs.declared.difference.Side.{Side}
 use Rattle.feed_audit.specs.declared.difference.Side.TheVariants.{Nothing, Object, Collection}
 use Rattle.feed_audit.specs.declared.difference.Difference.{Difference}
-use Rattle.feed_audit.specs.declared.difference.Difference.TheVariants.{NoToken, At, Same}
+use Rattle.feed_audit.specs.declared.difference.Difference.TheVariants.{NoToken, Ended, At, Same}
 use Rattle.feed_audit.specs.declared.verdict.Stray.{Stray}
 
 -- ---- as lines
@@ -37,8 +37,14 @@ abbrev pub place_text : List ℕ → Option (List ℕ) → List ℕ
 place_text kind None = kind
 place_text kind (Some id) = kind ++ codes " " ++ id
 
+-- where the primary's record ends too soon
+abbrev pub end_text : Option (List ℕ) → List ℕ
+end_text None = codes "the primary's record publishes nothing\n"
+end_text (Some token) = codes "the primary's record ends at token " ++ token ++ codes "\n"
+
 abbrev pub difference_text : Bool → Difference → List ℕ
 difference_text whole NoToken = codes "the primary has no such token\n"
+difference_text whole (Ended last) = end_text last
 difference_text whole Same = codes "the tables are the same\n"
 difference_text whole (At kind id primary screen) =
     codes "first at " ++ place_text kind id ++ codes "\nprimary: " ++ side_text whole primary
@@ -49,10 +55,15 @@ abbrev pub agreement_text : ℕ → ℕ → List ℕ
 agreement_text states primary =
     codes "agrees: " ++ decimal states ++ codes " states of " ++ decimal primary ++ codes "\n"
 
+-- how the verdict is called: a record that ends too soon shows no difference
+abbrev pub verdict_text : Difference → List ℕ
+verdict_text (Ended last) = codes "undecided: token "
+verdict_text other = codes "differs: token "
+
 -- which state is none of the primary's
 abbrev pub differs_text : Stray → List ℕ
 differs_text stray =
-    codes "differs: token " ++ stray.token ++ codes " at line " ++ decimal stray.line
+    verdict_text stray.difference ++ stray.token ++ codes " at line " ++ decimal stray.line
     ++ codes ", after " ++ decimal stray.before ++ codes " states\n"
 
 -- and why
@@ -78,6 +89,7 @@ sides_json primary screen =
 
 abbrev pub difference_json : Difference → List ℕ
 difference_json NoToken = codes "\"why\":\"no token\""
+difference_json (Ended last) = codes "\"why\":\"ended\",\"last\":" ++ written_name last
 difference_json Same = codes "\"why\":\"same\""
 difference_json (At kind id primary screen) = place_json kind id ++ sides_json primary screen
 
@@ -86,9 +98,13 @@ agreement_json states primary =
     codes "{\"verdict\":\"agrees\",\"states\":" ++ decimal states ++ codes ",\"of\":"
     ++ decimal primary ++ codes "}\n"
 
+abbrev pub verdict_json : Difference → List ℕ
+verdict_json (Ended last) = codes "{\"verdict\":\"undecided\",\"token\":"
+verdict_json other = codes "{\"verdict\":\"differs\",\"token\":"
+
 abbrev pub differs_json : Stray → List ℕ
 differs_json stray =
-    codes "{\"verdict\":\"differs\",\"token\":" ++ written_string stray.token ++ codes ",\"line\":"
+    verdict_json stray.difference ++ written_string stray.token ++ codes ",\"line\":"
     ++ decimal stray.line
     ++ codes ",\"after\":" ++ decimal stray.before ++ codes ","
 

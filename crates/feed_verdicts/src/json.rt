@@ -3,7 +3,7 @@
 ghost use Rattle.std.specs.Prelude.{◌≡◌, ◌++◌, OnOk};
 ghost use Rattle.std.specs.Option.{option_copied};
 ghost use Rattle.feed_note.specs.Written.{written_name};
-ghost use Rattle.feed_verdicts.specs.Verdicts.{side_json, place_json, sides_json, difference_json, agreement_json, differs_json, stray_json};
+ghost use Rattle.feed_verdicts.specs.Verdicts.{side_json, place_json, sides_json, difference_json, verdict_json as json_of, agreement_json, differs_json, stray_json};
 
 use crate::lines::print_number;
 use feed_audit::{Difference, Side, Stray};
@@ -40,13 +40,13 @@ fn print_side(side: &Side, out: &mut Vec<u8>) -> Result<(), AllocError>
     }
 }
 
-/// Appends an id as a string, and `null` where there is none.
-fn print_id(alloc: Global, id: Option<&Name>, out: &mut Vec<u8>) -> Result<(), AllocError>
+/// Appends an id or a token as a string, and `null` where there is none.
+fn print_name(alloc: Global, name: Option<&Name>, out: &mut Vec<u8>) -> Result<(), AllocError>
     ensures { OnOk result (out.new.items
-        ≡ out.old.items ++ written_name (option_copied id.entry)) }
+        ≡ out.old.items ++ written_name (option_copied name.entry)) }
 {
-    match id {
-        Some(id) => encode_string(alloc, id.text(), out),
+    match name {
+        Some(name) => encode_string(alloc, name.text(), out),
         None => out.extend_from_slice(b"null"),
     }
 }
@@ -64,7 +64,7 @@ fn print_place(
     out.extend_from_slice(b"\"why\":\"tables\",\"type\":")?;
     encode_string(alloc, kind.text(), out)?;
     out.extend_from_slice(b",\"id\":")?;
-    print_id(alloc, id, out)
+    print_name(alloc, id, out)
 }
 
 /// Appends the members that say what stands there.
@@ -87,6 +87,10 @@ fn print_difference(
 {
     match difference {
         Difference::NoToken => out.extend_from_slice(b"\"why\":\"no token\""),
+        Difference::Ended(last) => {
+            out.extend_from_slice(b"\"why\":\"ended\",\"last\":")?;
+            print_name(alloc, last.as_ref(), out)
+        }
         Difference::Same => out.extend_from_slice(b"\"why\":\"same\""),
         Difference::At {
             kind,
@@ -100,11 +104,21 @@ fn print_difference(
     }
 }
 
+/// The members that say how the verdict is called.
+fn verdict_json(difference: &Difference) -> &'static str
+    ensures { result.now ≡ json_of difference.now }
+{
+    match difference {
+        Difference::Ended(_) => "{\"verdict\":\"undecided\",\"token\":",
+        _ => "{\"verdict\":\"differs\",\"token\":",
+    }
+}
+
 /// Appends the members that say which state is none of the primary's.
 fn print_state(alloc: Global, stray: &Stray, out: &mut Vec<u8>) -> Result<(), AllocError>
     ensures { OnOk result (out.new.items ≡ out.old.items ++ differs_json stray.now) }
 {
-    out.extend_from_slice(b"{\"verdict\":\"differs\",\"token\":")?;
+    out.extend_from_slice(verdict_json(&stray.difference).as_bytes())?;
     encode_string(alloc, stray.token.text(), out)?;
     out.extend_from_slice(b",\"line\":")?;
     print_number(alloc, stray.line, out)?;

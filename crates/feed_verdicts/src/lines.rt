@@ -2,7 +2,7 @@
 
 ghost use Rattle.std.specs.Prelude.{◌≡◌, ◌++◌, OnOk, decimal};
 ghost use Rattle.std.specs.Option.{option_copied};
-ghost use Rattle.feed_verdicts.specs.Verdicts.{whole_characters as characters, object_text, side_text, place_text, difference_text, agreement_text, differs_text, stray_text};
+ghost use Rattle.feed_verdicts.specs.Verdicts.{whole_characters as characters, object_text, side_text, place_text, difference_text, end_text, verdict_text as text_of, agreement_text, differs_text, stray_text};
 
 use feed_audit::{Difference, Side, Stray};
 use feed_tables::Name;
@@ -92,6 +92,20 @@ fn print_place(kind: &Name, id: Option<&Name>, out: &mut Vec<u8>) -> Result<(), 
     }
 }
 
+/// Appends the line that says where the primary's record ends: at a token, or with none.
+fn print_end(last: Option<&Name>, out: &mut Vec<u8>) -> Result<(), AllocError>
+    ensures { OnOk result (out.new.items ≡ out.old.items ++ end_text (option_copied last.entry)) }
+{
+    match last {
+        Some(last) => {
+            out.extend_from_slice(b"the primary's record ends at token ")?;
+            out.extend_from_slice(last.text().as_bytes())?;
+            out.extend_from_slice(b"\n")
+        }
+        None => out.extend_from_slice(b"the primary's record publishes nothing\n"),
+    }
+}
+
 /// Appends the lines that say why a state is none of the primary's.
 fn print_difference(
     difference: &Difference,
@@ -103,6 +117,7 @@ fn print_difference(
 {
     match difference {
         Difference::NoToken => out.extend_from_slice(b"the primary has no such token\n"),
+        Difference::Ended(last) => print_end(last.as_ref(), out),
         Difference::Same => out.extend_from_slice(b"the tables are the same\n"),
         Difference::At {
             kind,
@@ -121,11 +136,21 @@ fn print_difference(
     }
 }
 
+/// How the verdict is called: a primary's record that ends too soon shows no difference.
+fn verdict_text(difference: &Difference) -> &'static str
+    ensures { result.now ≡ text_of difference.now }
+{
+    match difference {
+        Difference::Ended(_) => "undecided: token ",
+        _ => "differs: token ",
+    }
+}
+
 /// Appends the line that says which state is none of the primary's.
 fn print_state(alloc: Global, stray: &Stray, out: &mut Vec<u8>) -> Result<(), AllocError>
     ensures { OnOk result (out.new.items ≡ out.old.items ++ differs_text stray.now) }
 {
-    out.extend_from_slice(b"differs: token ")?;
+    out.extend_from_slice(verdict_text(&stray.difference).as_bytes())?;
     out.extend_from_slice(stray.token.text().as_bytes())?;
     out.extend_from_slice(b" at line ")?;
     print_number(alloc, stray.line, out)?;

@@ -1,7 +1,7 @@
 //! Two records, compared.
 ghost use Rattle.std.specs.Prelude.{◌≡◌, ℕ, List, IfOk, IfErr, OnOk, OnErr, IsErrOf, Some};
 ghost use Rattle.std.specs.Io.KnownBytes.{Appends};
-ghost use Rattle.feed_commands.specs.Audit.{record_bytes, agreement_printed, stray_printed, PrintsAgreement, AuditFails, IsUnreadRecord};
+ghost use Rattle.feed_commands.specs.Audit.{record_bytes, agreement_printed, stray_printed, stray_fault, PrintsAgreement, AuditFails, IsUnreadRecord};
 ghost use Rattle.feed_records.specs.ScreenLines.{source_of};
 ghost use Rattle.feed_commands.specs.Check.{IsWholeWithin, FailsWithin};
 ghost use Rattle.feed_http.specs.Device.{AppendsPrefix, HasFailed};
@@ -9,7 +9,7 @@ ghost use Rattle.feed_http.specs.Device.{AppendsPrefix, HasFailed};
 use crate::fault::Fault;
 use crate::input::read_within;
 use feed_arguments::AuditOptions;
-use feed_audit::{Stray, Verdict, audit_record, count_states};
+use feed_audit::{Difference, Stray, Verdict, audit_record, count_states};
 use feed_http::device::{FeedRead, FeedWrite, write_all};
 use feed_records::{Replayed, ScreenLines, Skipped};
 use feed_verdicts::{print_agreement, print_agreement_json, print_stray, print_stray_json};
@@ -63,6 +63,16 @@ fn strayed(alloc: Global, json: bool, verbose: bool, stray: &Stray) -> Result<Ve
     Ok(text)
 }
 
+/// How the command fails after a state that is none of the primary's.
+fn fault_of(difference: &Difference) -> Fault
+    ensures { result ≡ stray_fault difference.now }
+{
+    match difference {
+        Difference::Ended(_) => Fault::Ended,
+        _ => Fault::Differs,
+    }
+}
+
 /// Prints a text.
 fn print_text<W: FeedWrite>(text: &[u8], out: &mut W) -> Result<(), Fault>
     ensures ok { OnOk result (Appends (W.contents out.old) (W.contents out.new) text.now) }
@@ -80,8 +90,9 @@ fn print_text<W: FeedWrite>(text: &[u8], out: &mut W) -> Result<(), Fault>
 /// Prints whether each state that the screen's record publishes is one that the primary's publishes
 /// under the same token. The screen's may have several connections, each read as a fresh one, and
 /// what is left of it is read once. Where a state is not the primary's, the fault is `Differs`,
-/// behind what is printed of the first such state. Where the screen's publishes nothing, and where
-/// a line of a record can't be read, nothing is printed.
+/// behind what is printed of the first such state; or `Ended` where the primary's record ends too
+/// soon to tell. Where the screen's publishes nothing, and where a line of a record can't be read,
+/// nothing is printed.
 pub fn print_verdict<P: Replayed, L: Skipped, W: FeedWrite>(
     alloc: Global,
     options: &AuditOptions<'_>,
@@ -114,7 +125,7 @@ pub fn print_verdict<P: Replayed, L: Skipped, W: FeedWrite>(
         Verdict::Strays(stray) => {
             let text = strayed(alloc, options.json, options.verbose, &stray)?;
             print_text(text.as_slice(), out)?;
-            Err(Fault::Differs)
+            Err(fault_of(&stray.difference))
         }
     }
 }

@@ -1,13 +1,15 @@
-use Rattle.std.proofs.Common.{◌≡◌, ℕ, List, Some, refl, sym, ap, ◌∙◌, subst, [], true, arith}
+use Rattle.std.proofs.Common.{◌≡◌, ℕ, List, Some, refl, sym, ap, ◌∙◌, subst, [], true, arith, rules}
 use Rattle.std.specs.Prelude.{IfSome}
 use Rattle.std.proofs.lemmas.Result.{err_from_is_err_and}
-use Rattle.feed_node.specs.States.{NodeState}
+use Rattle.feed_node.specs.States.{NodeState, published_token}
 use Rattle.feed_audit.specs.Answers.{FailsFrom, begun_by}
 use Rattle.feed_records.specs.Fronts.{IsLeft}
 use Rattle.feed_audit.specs.States.{Start, afresh, IsStateOf}
+use Rattle.feed_audit.specs.Stops.{IsUnread}
 use Rattle.feed_audit.specs.Walks.{CommitsOn, IsNextState, Finds}
 use Rattle.feed_audit.proofs.Agreeing.{walked_begun, since_unknown, screen_stops}
 use Rattle.feed_audit.proofs.Missing.{unread_fails, locate_fails}
+use Rattle.feed_audit.proofs.Unreading.{screen_unread}
 use Rattle.feed_audit.proofs.Verdicts.{Agrees, agrees_none, agreement, agrees_on, meets_now, straying}
 use Rattle.feed_audit.proofs.auditing.audit_on.Goals as goal
 
@@ -40,7 +42,7 @@ returns-then-not-branch-clause-ok g c text body is at shown =
     let strange = c.in_ok-locate-in-Ok-true.ensures.none text (c.states.invariant.whole ∙ is) c.if-not-branch.true in
     straying c.line_laws.ensures.one_meaning start text body _ next.0.0 _ _ _ c.next_state.new.mirror
     c.node-wanted.result.now.shown c.node-wanted.result.now.shown _ a.2 next.0.2 c.node-wanted.ensures.node c.node-wanted.ensures.node strange c.in_ok-token_of-in-Ok-true.ensures.ok
-    c.node-wanted.result.now.shown c.node-wanted.ensures.node (c.in_ok-difference-in-Ok-true.ensures.ok text (c.locate.ensures.whole ∙ (c.states.invariant.whole ∙ is)) strange) refl
+    c.node-wanted.result.now.shown c.node-wanted.ensures.node c.in_ok-before.before (c.in_ok-before.ensures ∙ ap published_token c.node.ensures.node) (c.in_ok-difference-in-Ok-true.ensures.ok text (c.locate.ensures.whole ∙ (c.states.invariant.whole ∙ is)) strange) refl
 
 pub returns-in-Err-clause-err : goal.returns-in-Err-clause-err
 returns-in-Err-clause-err g c text body is at shown =
@@ -48,6 +50,11 @@ returns-in-Err-clause-err g c text body is at shown =
     let start = begun_by c.args.limits c.args.theirs.now in
     subst (FailsFrom start text body) (sym c.of_screen.ensures)
     (screen_stops start text body a.2.notes a.2.all c.in-Err.stop c.next_state.new.lines (c.in-Err.ensures.err start body a.0 a.2.notes a.1 a.2.walked))
+
+pub returns-in-Err-clause-unread : goal.returns-in-Err-clause-unread
+returns-in-Err-clause-unread g c =
+    subst (IsUnread (g.P.Lines.unread c.states.primary) (g.L.Lines.unread c.next_state.new.text)) (sym c.of_screen.ensures)
+    (screen_unread (g.P.Lines.unread c.states.primary) (g.L.Lines.unread c.next_state.new.text) c.in-Err.stop c.next_state.new.lines (λ why e. c.in-Err.ensures.unread why (search rules)))
 
 pub returns-in-Ok-false-clause-ok : goal.returns-in-Ok-false-clause-ok
 returns-in-Ok-false-clause-ok g c text body is at shown =

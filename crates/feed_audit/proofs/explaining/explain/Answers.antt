@@ -33,16 +33,17 @@ returns-in-Err-clause-err g c text is =
 pub returns-in-Ok-false-clause-ok : goal.returns-in-Ok-false-clause-ok
 returns-in-Ok-false-clause-ok g c text is strange state here =
     let l = c.states.invariant.lacks text is in
-    no_token c.line_laws.ensures.one_meaning _ _ _ _ _ _ _ state (l.2.0, l.2.1, l.2.2 state here)
+    no_token c.line_laws.ensures.one_meaning _ _ _ _ _ _ _ state c.args.before.now c.node-in-Ok-false.result.now.shown c.in_ok-without_token-in-Ok-false.field-0 (l.2.0, l.2.1, l.2.2 state here)
     (subst (λ found. IsNextState found (afresh c.args.limits) text (g.P.Lines.left c.next_state.new.text) l.2.0 c.next_state.new.lines c.states.mirror c.next_state.new.mirror) c.in-Ok-false.field-0-test
     (c.in-Ok-false.ensures.ok (afresh c.args.limits) text l.0 l.2.0 l.1 l.2.1))
+    c.node-in-Ok-false.ensures.node c.in_ok-without_token-in-Ok-false.ensures
 
 pub returns-then-has_token-clause-ok : goal.returns-then-has_token-clause-ok
 returns-then-has_token-clause-ok g c text is strange state here =
     let l = c.states.invariant.lacks text is in
     let next = subst (λ found. IsNextState found (afresh c.args.limits) text (g.P.Lines.left c.next_state.new.text) l.2.0 c.next_state.new.lines c.states.mirror c.next_state.new.mirror) c.in-Ok-true.field-0-test
     (c.in-Ok-true.ensures.ok (afresh c.args.limits) text l.0 l.2.0 l.1 l.2.1) in
-    found_token c.line_laws.ensures.one_meaning _ _ _ _ _ _ _ _ c.node.result.now.shown state c.in_ok-difference_between-in-Ok-true.field-0 (l.2.0, l.2.1, l.2.2 state here) next.0.2 next.1.some c.node.ensures.node (strange state here)
+    found_token c.line_laws.ensures.one_meaning _ _ _ _ _ _ _ _ c.node.result.now.shown c.args.before.now state c.in_ok-difference_between-in-Ok-true.field-0 (l.2.0, l.2.1, l.2.2 state here) next.0.2 next.1.some c.node.ensures.node (strange state here)
     (λ shown there. c.has_token.ensures.same shown state there here c.if-has_token.true)
     (λ shown there. c.in_ok-difference_between-in-Ok-true.ensures shown state (ap (λ (n : NodeState). n.published) (c.node-then-has_token.ensures.node ∙ sym c.node.ensures.node) ∙ there) here)
 

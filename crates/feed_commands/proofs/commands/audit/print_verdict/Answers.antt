@@ -1,7 +1,7 @@
 use Rattle.std.proofs.Common.{◌∙◌, subst, inl, inr, arith}
 use Rattle.std.proofs.lemmas.Result.{err_from_is_err_and}
 use Rattle.feed_audit.specs.Records.{IsRecordVerdict}
-use Rattle.feed_commands.proofs.AuditLemmas.{compare_fails, stray_prefix, agreement_printed, agreement_prefix}
+use Rattle.feed_commands.proofs.AuditLemmas.{compare_fails, stray_prefix, stray_fails, agreement_printed, agreement_prefix}
 use Rattle.feed_commands.proofs.commands.audit.print_verdict.Goals as goal
 
 pub returns-in_err-audit_record-clause-err : goal.returns-in_err-audit_record-clause-err
@@ -43,15 +43,10 @@ returns-in_ok-text-in-Agrees-clause-err g c text all is at =
     c.print_text.ensures.write c.print_text.ensures.err
 
 pub returns-in_ok-print_text-in-Strays-clause-err : goal.returns-in_ok-print_text-in-Strays-clause-err
-returns-in_ok-print_text-in-Strays-clause-err g c text all is at = (
-  c.as_slice-in-Strays.result.now,
-  record {
-    stray = c.in-Strays.stray;
-    strays = subst (IsRecordVerdict c.args.options.now.limits text all) c.in-Strays.is (c.in_ok-audit_record.ensures.ok text all is at);
-    text_is = c.as_slice-in-Strays.ensures.value ∙ c.in_ok-text-in-Strays.ensures;
-  },
-  c.in_ok-print_text-in-Strays.ensures.ok,
-)
+returns-in_ok-print_text-in-Strays-clause-err g c text all is at =
+    stray_fails c.args.options.now text all _ _ c.fault_of.result c.in-Strays.stray c.as_slice-in-Strays.result.now c.fault_of.ensures
+    (subst (IsRecordVerdict c.args.options.now.limits text all) c.in-Strays.is (c.in_ok-audit_record.ensures.ok text all is at))
+    (c.as_slice-in-Strays.ensures.value ∙ c.in_ok-text-in-Strays.ensures) c.in_ok-print_text-in-Strays.ensures.ok
 
 pub returns-in_err-print_text-in-Strays-clause-err : goal.returns-in_err-print_text-in-Strays-clause-err
 returns-in_err-print_text-in-Strays-clause-err g c text all is at =
