@@ -116,7 +116,7 @@ abbrev pub hold : Rule
 hold = with_default (codes "10") (number_between (codes "hold") 0 most_hold)
 
 abbrev pub serve_old : Rule
-serve_old = flag (codes "serve-old")
+serve_old = tied (flag (codes "serve-old"))
 
 abbrev pub history : Rule
 history = with_default (codes "65536") (number_in (codes "history") most_commits)

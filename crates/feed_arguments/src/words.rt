@@ -67,31 +67,61 @@ fn parse<'a>(alloc: Global, words: &'a [&'a str]) -> Result<Request<'a>, clap::E
     asked
 }
 
-/// A refusal with the usual calls below it.
-fn with_usual_calls(reply: NoCommand) -> NoCommand
+/// A refusal with this text below it.
+fn with_more(reply: NoCommand, more: &str) -> NoCommand
     ensures { (words : List Text) → AsksNothing words reply → AsksNothing words result }
 {
     let NoCommand::Refused(mut text) = reply else {
         return reply;
     };
-    for more in ["\n", USUAL_CALLS, "\n"] {
-        if text.push_str(more).is_err() {
+    for piece in ["\n", more, "\n"] {
+        if text.push_str(piece).is_err() {
             return NoCommand::Memory;
         }
     }
     NoCommand::Refused(text)
 }
 
-/// What is replied to words that clap refuses: with the usual calls, where nothing stands behind
-/// the program's name.
+/// How a command is given a file, where its words name one that clap doesn't expect.
+fn call_with_file(command: &str) -> Option<&'static str> {
+    match command {
+        "tables" => Some("tables reads standard input: tunygarop tables < FILE"),
+        "check" => Some("check reads standard input: tunygarop check < FILE"),
+        "play" => Some("play reads standard input: tunygarop play < FILE"),
+        "serve" => Some("serve reads standard input: tunygarop serve .. < FILE"),
+        "audit" => Some("audit reads files: tunygarop audit --primary FILE --screen FILE"),
+        _ => None,
+    }
+}
+
+/// Whether a refusal is about a word that is no option, as the name of a file.
+fn is_about_a_name(refusal: &str) -> bool {
+    match refusal.strip_prefix("error: unexpected argument '") {
+        Some(rest) => !rest.starts_with('-'),
+        None => false,
+    }
+}
+
+/// What stands below a reply to these words: the usual calls, where nothing stands behind the
+/// program's name, or how a command is given a file.
+fn more_on(words: &[&str], reply: &NoCommand) -> Option<&'static str> {
+    let Some(command) = words.get(1) else {
+        return Some(USUAL_CALLS);
+    };
+    match reply {
+        NoCommand::Refused(text) if is_about_a_name(text.as_str()) => call_with_file(command),
+        _ => None,
+    }
+}
+
+/// What is replied to words that clap refuses.
 fn reply_to(alloc: Global, words: &[&str], error: &clap::Error) -> NoCommand
     ensures { (words : List Text) → RefusesBy words (kind_of error.now) → AsksNothing words result }
 {
     let reply = reply(alloc, error);
-    if words.len() <= 1 {
-        with_usual_calls(reply)
-    } else {
-        reply
+    match more_on(words, &reply) {
+        Some(more) => with_more(reply, more),
+        None => reply,
     }
 }
 

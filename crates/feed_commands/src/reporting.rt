@@ -10,8 +10,8 @@ use crate::commands::pull::attempt_outcome;
 use crate::fault::Fault;
 use crate::placing::Spot;
 use arrayvec::ArrayString;
-use feed_http::Served;
 use feed_http::device::{Failed, FeedWrite, write_all};
+use feed_http::{PlaceFault, Served};
 use feed_relay::{Attempt, AttemptEnd, NetworkFault, Server};
 use std::fmt;
 use std::fmt::Write;
@@ -22,6 +22,9 @@ const ROOM: usize = 512;
 
 /// The most bytes of it before its last line feed.
 const WORDS: usize = ROOM - 1;
+
+/// What a list of servers has to be.
+const LIST_FORM: &str = "servers are listed as host:port,host:port, 16 at most";
 
 /// A host and a port.
 type Address<'h> = (&'h str, u16);
@@ -35,8 +38,24 @@ fn add_spot(words: &mut ArrayString<WORDS>, spot: Spot) -> fmt::Result {
     }
 }
 
-/// Appends what more is known of a fault, as a second line: the address that it is about, or where
-/// in the input it is.
+/// What the part of a place has to be that can't be named so.
+fn form_of(fault: PlaceFault) -> &'static str {
+    match fault {
+        PlaceFault::BadHost => {
+            "a host is a name or an address, as 10.0.0.5, with no scheme before it and no path behind"
+        }
+        PlaceFault::BadBase => {
+            "a base begins with a slash, and ends in none, as /api: it stands before /contests"
+        }
+        PlaceFault::BadContest => {
+            "a contest is its id alone, of at most 64 letters, digits and characters of ._-"
+        }
+        PlaceFault::Memory => "",
+    }
+}
+
+/// Appends what more is known of a fault, as a second line: the address that it is about, where in
+/// the input it is, or what an option has to be.
 fn add_more(
     words: &mut ArrayString<WORDS>,
     name: &str,
@@ -56,6 +75,8 @@ fn add_more(
         (Fault::Batches(stop), None) => {
             write!(words, "\n{name}: line {} of standard input", stop.line)
         }
+        (Fault::Place(fault), None) => write!(words, "\n{name}: {}", form_of(fault)),
+        (Fault::Address(_), None) => write!(words, "\n{name}: {LIST_FORM}"),
         _ => Ok(()),
     };
 }

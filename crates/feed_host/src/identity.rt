@@ -18,9 +18,23 @@ const GROUP: u32 = 0o070;
 
 const OTHERS: u32 = 0o007;
 
+/// What some editors put before UTF-8.
+const BYTE_ORDER_MARK: &[u8] = b"\xef\xbb\xbf";
+
 const OPEN_FILE: &str = "the user file is open to others: chmod 600 it";
 
+const FOLDER: &str = "the user file is a folder";
+
 const BAD_FILE: &str = "the user file is not one line NAME:PASSWORD";
+
+const MARKED_FILE: &str =
+    "the user file begins with a byte order mark: write it as UTF-8 without one";
+
+const DOS_FILE: &str = "the user file's line ends in CR LF: end it in LF alone";
+
+const NO_FILE: &str = "the user file isn't there";
+
+const SHUT_FILE: &str = "the user file can't be read: this user may not";
 
 const UNREAD_FILE: &str = "the user file can't be read";
 
@@ -33,33 +47,58 @@ fn is_open_to_others(file: &Metadata) -> bool {
     mode & OTHERS != 0 || mode & GROUP != 0 && file.uid() == geteuid()
 }
 
-/// The text of the file; none where others may read it.
-fn read_file(rt: &HostRuntime, path: &str) -> io::Result<Option<Vec<u8>>> {
+/// Why a file is not read, by what it is; none where it may be.
+fn refusal_of(file: &Metadata) -> Option<&'static str> {
+    if file.is_dir() {
+        Some(FOLDER)
+    } else if is_open_to_others(file) {
+        Some(OPEN_FILE)
+    } else {
+        None
+    }
+}
+
+/// The text of the file, or why it is not read.
+fn read_file(rt: &HostRuntime, path: &str) -> io::Result<Result<Vec<u8>, &'static str>> {
     let file = File::open(rt, path)?;
-    if is_open_to_others(&file.metadata()?) {
-        return Ok(None);
+    if let Some(refusal) = refusal_of(&file.metadata()?) {
+        return Ok(Err(refusal));
     }
     let mut text = Vec::new(rt.alloc());
     file.take(MOST).read_to_end(&mut text)?;
-    Ok(Some(text))
+    Ok(Ok(text))
+}
+
+/// Why the file can't be read.
+fn unread_by(error: &io::Error) -> Failure {
+    let text = match error.kind() {
+        ErrorKind::OutOfMemory => return Failure::from(Fault::Memory),
+        ErrorKind::NotFound => NO_FILE,
+        ErrorKind::PermissionDenied => SHUT_FILE,
+        _ => UNREAD_FILE,
+    };
+    Failure::with_more(Fault::Read, text)
 }
 
 /// What the file has, or why it can't be taken.
 fn text_of(rt: &HostRuntime, path: &str) -> Result<Vec<u8>, Failure> {
     match read_file(rt, path) {
-        Ok(Some(text)) => Ok(text),
-        Ok(None) => Err(Failure::refused(OPEN_FILE)),
-        Err(error) => match error.kind() {
-            ErrorKind::OutOfMemory => Err(Failure::from(Fault::Memory)),
-            _ => Err(Failure::with_more(Fault::Read, UNREAD_FILE)),
-        },
+        Ok(Ok(text)) => Ok(text),
+        Ok(Err(refusal)) => Err(Failure::refused(refusal)),
+        Err(error) => Err(unread_by(&error)),
     }
 }
 
-/// The line of the file, without its end.
-fn line_of(text: &[u8]) -> Option<&str> {
+/// The line of the file, without its end, or why it has none.
+fn line_of(text: &[u8]) -> Result<&str, &'static str> {
+    if text.starts_with(BYTE_ORDER_MARK) {
+        return Err(MARKED_FILE);
+    }
+    if text.ends_with(b"\r\n") {
+        return Err(DOS_FILE);
+    }
     let line = text.strip_suffix(b"\n".as_slice()).unwrap_or(text);
-    std::str::from_utf8(line).ok()
+    std::str::from_utf8(line).map_err(|_| BAD_FILE)
 }
 
 fn failure_of(fault: IdentityFault) -> Failure {
@@ -84,9 +123,7 @@ pub fn identity_of(
         return Identity::new(alloc, host_header, None).map_err(failure_of);
     };
     let text = text_of(rt, path)?;
-    let Some(line) = line_of(text.as_slice()) else {
-        return Err(Failure::refused(BAD_FILE));
-    };
+    let line = line_of(text.as_slice()).map_err(|refusal| Failure::refused(refusal))?;
     Identity::new(alloc, host_header, Some(line)).map_err(failure_of)
 }
 

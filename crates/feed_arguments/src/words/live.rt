@@ -208,6 +208,7 @@ static STATE: [Declared; 7] = [
     Declared {
         name: "serve-old",
         help: "Serve the state of the file at once, however old it is, and not only once a server was heard",
+        tie: Tie::Needs("state"),
         ..PLAIN
     },
     // The limits of the node that is served.
