@@ -1,5 +1,5 @@
 -- Lemmas on input that is read whole: where it isn't, a command fails so.
-use Rattle.std.proofs.Common.{◌≡◌, ◌≢◌, ◌⊎◌, inl, inr, refl, sym, subst, List, ℕ, Option, None}
+use Rattle.std.proofs.Common.{◌≡◌, ◌≢◌, ◌⊎◌, inl, inr, refl, sym, subst, List, ℕ, Bool, Option, None}
 use Rattle.std.specs.Io.KnownBytes.{Keeps}
 use Rattle.feed_settings.specs.Limits.{Limits}
 use Rattle.feed_note.specs.Counts.{StopsAt}
@@ -21,9 +21,9 @@ fails_so most why old new (inl e) = subst (λ w. FailsWithin most w old new) (sy
 fails_so most why old new (inr e) = subst (λ w. FailsWithin most w old new) (sym e) tt
 
 module _ (old new : Option (List ℕ)) where
-  pub count_fails : (why : Fault) → InputFails why old new → CountFails why old new
-  count_fails (fault.Survey why) none = absurd none
-  count_fails why fails = fails
+  pub count_fails : (verbose : Bool) (why : Fault) → InputFails why old new → CountFails verbose why old new
+  count_fails verbose (fault.Survey why) none = absurd none
+  count_fails verbose why fails = fails
 
   pub start_fails : (turn : Option ℕ) (limits : Limits) (why : Fault) → InputFails why old new
       → StartFails turn limits why old new
@@ -42,21 +42,21 @@ module _ (old new : Option (List ℕ)) where
       → why.stop ≢ stop.Memory → InputStops old new why
   stops_so bytes why whole stops other = record { bytes = bytes; whole = whole; stops = stops other }
 
-  stops_within : (bytes : List ℕ) (why : SurveyFault) → IsWhole old new bytes
+  stops_within : (verbose : Bool) (bytes : List ℕ) (why : SurveyFault) → IsWhole old new bytes
       → (why.stop ≢ stop.Memory → StopsAt bytes why.line why.stop)
-      → why.stop ≢ stop.Memory → InputStopsWithin old new (record { fault = why; spot = None })
-  stops_within bytes why whole stops other =
-      record { bytes = bytes; whole = whole; stops = stops other; placed = tt }
+      → why.stop ≢ stop.Memory → InputStopsWithin verbose old new (record { fault = why; spot = None })
+  stops_within verbose bytes why whole stops other =
+      record { bytes = bytes; whole = whole; text = bytes; read_as = inl refl; stops = stops other; placed = tt }
 
-  pub count_stops : (bytes : List ℕ) (why : SurveyFault) → IsWhole old new bytes
+  pub count_stops : (verbose : Bool) (bytes : List ℕ) (why : SurveyFault) → IsWhole old new bytes
       → (why.stop ≢ stop.Memory → StopsAt bytes why.line why.stop)
-      → CountFails (fault_of_survey why) old new
-  count_stops bytes why whole stops = by why.stop refl
+      → CountFails verbose (fault_of_survey why) old new
+  count_stops verbose bytes why whole stops = by why.stop refl
     where
-      by : (s : LineStop) → why.stop ≡ s → CountFails (fault_at s why) old new
+      by : (s : LineStop) → why.stop ≡ s → CountFails verbose (fault_at s why) old new
       by stop.Memory e = tt
-      by stop.LongLine e = stops_within bytes why whole stops (λ m. absurd (cc))
-      by (stop.Line f) e = stops_within bytes why whole stops (λ m. absurd (cc))
+      by stop.LongLine e = stops_within verbose bytes why whole stops (λ m. absurd (cc))
+      by (stop.Line f) e = stops_within verbose bytes why whole stops (λ m. absurd (cc))
 
   pub start_stops : (turn : Option ℕ) (limits : Limits) (bytes : List ℕ) (why : SurveyFault)
       → IsWhole old new bytes → (why.stop ≢ stop.Memory → StopsAt bytes why.line why.stop)

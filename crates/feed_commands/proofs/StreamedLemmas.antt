@@ -1,6 +1,6 @@
 -- Lemmas on a feed that is read piece by piece.
-use Rattle.std.proofs.Common.{◌≡◌, ◌≢◌, refl, sym, ap, ap₂, ◌∙◌, subst, inl, inr, ℕ, ◌+◌, ◌*◌, ◌<◌, ◌≤◌, ◌^◌, Bool, true, false, ◌||◌, ◌&&◌, not, List, [], ◌∷◌, ◌++◌, length, append_assoc, append-nil, length-append, take, arith, Option, Some, None}
-use Rattle.std.specs.Prelude.{count_by, is_some}
+use Rattle.std.proofs.Common.{◌≡◌, ◌≢◌, ◌⊎◌, refl, sym, ap, ap₂, ◌∙◌, subst, inl, inr, ℕ, ◌+◌, ◌*◌, ◌<◌, ◌≤◌, ◌^◌, Bool, true, false, ◌||◌, ◌&&◌, not, List, [], ◌∷◌, ◌++◌, length, append_assoc, append-nil, length-append, take, arith, Option, Some, None}
+use Rattle.std.specs.Prelude.{count_by, is_some, if◌then◌else◌}
 use Rattle.std.specs.List.{AllByRecursion, AllZip, list_any, sum_by}
 use Rattle.std.specs.Option.{option_map_or}
 use Rattle.std.specs.BTreeSet.{contains_text}
@@ -29,10 +29,10 @@ use Rattle.feed_note.specs.declared.line.Line.{Line}
 use Rattle.feed_note.specs.declared.stop.LineStop.{LineStop}
 use Rattle.feed_note.specs.declared.stop.LineStop.TheVariants as stop
 use Rattle.feed_commands.specs.Findings.{has_this, comes_again, is_tokenless, of_each, IsOlder, IsMisnamed, IsFound, AreFound, TellsNothing, findings_text, IsSaid, TakesSaid, ReadsOneLine}
-use Rattle.feed_commands.specs.Streamed.{StopsForGood, CountsLine, AreNoted, AreTallied, HasRoomFor, HasTaken, HasRoomOn, WasTaken, IsAllTaken, StreamStops, StreamReadOn, StreamFails, StreamCounted}
-use Rattle.feed_commands.specs.Check.{TellsCounts, counts_text}
+use Rattle.feed_commands.specs.Streamed.{StopsForGood, CountsLine, AreNoted, AreTallied, HasRoomFor, HasTaken, HasRoomOn, WasTaken, IsAllTaken, StreamStops, StreamReadOn, StreamFails, ClosedStops, ClosingFails, StreamCounted}
+use Rattle.feed_commands.specs.Check.{TellsCounts, IsReadable, closed, counts_text}
 use Rattle.feed_commands.specs.Fault.{fault_at, fault_of_survey}
-use Rattle.feed_commands.specs.declared.commands.findings.Findings.{Findings}
+use Rattle.feed_commands.specs.declared.fault.Fault.{Fault}
 use Rattle.feed_commands.proofs.CheckLemmas.{tells_counts, tells_findings}
 use Rattle.feed_arguments.specs.declared.request.CheckOptions.{CheckOptions}
 use Rattle.feed_note.specs.declared.counts.SurveyFault.{SurveyFault}
@@ -518,14 +518,26 @@ pub input_on : (verbose : Bool) (reads : ℕ) (a b : Option (List ℕ)) (reading
 input_on verbose reads a b reading all h =
     record { bytes = h.bytes; read = h.read; many = let many : reads ≤ length h.bytes = h.many in omega arith }
 
-pub input_all : (verbose : Bool) (reads : ℕ) (a b : Option (List ℕ)) (reading : Reading) → IsAtEnd b → WasTaken verbose reads a b reading → IsAllTaken verbose a b reading
-input_all verbose reads a b reading end h = record { bytes = h.bytes; read = h.read; end = end; taken = h.taken }
+few_reads : (more : Bool) (reads n : ℕ) → reads < 1099511627776 → n ≤ 4096 * (if more then reads + 1 else reads) → n + 1 < 2 ^ 64
+few_reads true reads n few h = omega arith
+few_reads false reads n few h = omega arith
+
+pub input_all : (verbose more : Bool) (reads : ℕ) (a b : Option (List ℕ)) (reading : Reading) → reads < 1099511627776 → IsAtEnd b
+    → WasTaken verbose (if more then reads + 1 else reads) a b reading → IsAllTaken verbose a b reading
+input_all verbose more reads a b reading few end h =
+    record { bytes = h.bytes; read = h.read; end = end; few = few_reads more reads (length h.bytes) few h.few; taken = h.taken }
+
+-- one line feed more fits
+pub all_room : (verbose : Bool) (a b : Option (List ℕ)) (reading : Reading) → IsAllTaken verbose a b reading → HasRoomOn 1 reading
+all_room verbose a b reading h = record { verbose = verbose; text = h.bytes; taken = h.taken; few = h.few }
 
 -- what is told of the whole input
-pub stream_counted : (options : CheckOptions) (a b : Option (List ℕ)) (reading : Reading) (text : List ℕ) (findings : Option Findings) → (h : IsAllTaken options.verbose a b reading)
-    → (options.verbose ≡ true → findings ≡ Some reading.tally.reader.findings) → (options.verbose ≡ false → findings ≡ None)
-    → text ≡ counts_text (with_rest reading.tally.counts (length reading.left.items)) ++ option_map_or findings_text findings [] → StreamCounted options a b text
-stream_counted options a b reading text findings h some none is = record {
+pub stream_counted : (options : CheckOptions) (a b : Option (List ℕ)) (reading : Reading) (text : List ℕ) → (h : IsAllTaken options.verbose a b reading)
+    → (HasTaken true h.bytes reading → reading.tally.counts.notes ≡ 0 → IsReadable (closed h.bytes))
+    → (reading.tally.verbose ≡ false → text ≡ counts_text (with_rest reading.tally.counts (length reading.left.items)))
+    → (reading.tally.verbose ≡ true → text ≡ counts_text (with_rest reading.tally.counts (length reading.left.items)) ++ findings_text reading.tally.reader.findings)
+    → StreamCounted options a b text
+stream_counted options a b reading text h closes plain full = record {
   bytes = h.bytes;
   read = h.read;
   end = h.end;
@@ -540,6 +552,39 @@ stream_counted options a b reading text findings h some none is = record {
 
     by : (v : Bool) → options.verbose ≡ v → TellsCounts options h.bytes text
     by true e =
-        tells_findings options h.bytes text counts reading.tally.reader.findings e all (found_all options.verbose h.bytes reading h.taken ((h.taken).verbose_is ∙ e))
-        (is ∙ ap (λ f. counts_text counts ++ option_map_or findings_text f []) (some e))
-    by false e = tells_counts options h.bytes text counts e all (is ∙ ap (λ f. counts_text counts ++ option_map_or findings_text f []) (none e) ∙ append-nil (counts_text counts))
+        tells_findings options h.bytes text counts reading.tally.reader.findings e all (closes (subst (λ v. HasTaken v h.bytes reading) e h.taken))
+        (found_all options.verbose h.bytes reading h.taken ((h.taken).verbose_is ∙ e)) (full ((h.taken).verbose_is ∙ e))
+    by false e = tells_counts options h.bytes text counts e all (plain ((h.taken).verbose_is ∙ e))
+
+-- the line that is left can't be read once it has ended
+pub closing_stops : (verbose : Bool) (a b : Option (List ℕ)) (reading : Reading) (why : SurveyFault) → (h : IsAllTaken verbose a b reading)
+    → (why.stop ≢ stop.Memory → (verbose ≡ true) × (reading.tally.counts.notes ≡ 0) × StopsAt (closed h.bytes) why.line why.stop)
+    → StreamFails (fault_of_survey why) a b ⊎ ((verbose ≡ true) × ClosingFails (fault_of_survey why) a b)
+closing_stops verbose a b reading why h stops = by why.stop refl
+  where
+    so : (c : (verbose ≡ true) × (reading.tally.counts.notes ≡ 0) × StopsAt (closed h.bytes) why.line why.stop) → ClosedStops a b why
+    so c = record {
+      bytes = h.bytes;
+      read = h.read;
+      end = h.end;
+      none = (with_rest reading.tally.counts (length reading.left.items), counted_all verbose h.bytes reading h.taken, c.1);
+      stops = c.2;
+    }
+
+    by : (s : LineStop) → why.stop ≡ s → StreamFails (fault_at s why) a b ⊎ ((verbose ≡ true) × ClosingFails (fault_at s why) a b)
+    by stop.Memory e = inl tt
+    by stop.LongLine e = let c = stops (λ m. absurd (cc)) in inr (c.0, so c)
+    by (stop.Line f) e = let c = stops (λ m. absurd (cc)) in inr (c.0, so c)
+
+-- and so it is told
+pub told_fails : (verbose : Bool) (why told : Fault) (a b : Option (List ℕ)) → (StreamFails why a b → StreamFails told a b) → (ClosingFails why a b → ClosingFails told a b)
+    → StreamFails why a b ⊎ ((verbose ≡ true) × ClosingFails why a b) → StreamFails told a b ⊎ ((verbose ≡ true) × ClosingFails told a b)
+told_fails verbose why told a b on closing (inl h) = inl (on h)
+told_fails verbose why told a b on closing (inr (e, h)) = inr (e, closing h)
+
+-- the end of the line that is left
+pub closed_readable : (verbose : Bool) (text : List ℕ) (reading : Reading) → HasTaken verbose (text ++ 10 ∷ []) reading → IsReadable (closed text)
+closed_readable verbose text reading h = (with_rest reading.tally.counts (length reading.left.items), counted_all verbose (text ++ 10 ∷ []) reading h)
+
+pub closed_stops : (text : List ℕ) (line : ℕ) (why : LineStop) → StopsForGood (text ++ 10 ∷ []) line why → StopsAt (closed text) line why
+closed_stops text line why h = subst (λ t. StopsAt t line why) (append-nil (text ++ 10 ∷ [])) (h [])

@@ -1,5 +1,5 @@
 -- What the command `check` reads and prints.
-use Rattle.std.specs.Prelude.{◌≡◌, ℕ, ◌+◌, ◌<◌, ◌≤◌, Bool, true, false, List, [], ◌∷◌, ◌++◌, length, codes, decimal, Option, None, Some}
+use Rattle.std.specs.Prelude.{◌≡◌, ◌⊎◌, ℕ, ◌+◌, ◌<◌, ◌≤◌, Bool, true, false, List, [], ◌∷◌, ◌++◌, length, codes, decimal, Option, None, Some}
 use Rattle.std.specs.Io.KnownBytes.{Appends, Consumes, IsAtEnd, Keeps}
 use Rattle.feed_text.specs.Ascii.{line_feed}
 use Rattle.feed_note.specs.Counts.{Counted, StopsAt}
@@ -47,10 +47,29 @@ TellsMore false bytes lines = lines ≡ []
 TellsMore true bytes lines =
     (findings : Findings) × AreFound bytes findings × (lines ≡ findings_text findings)
 
+-- the text with its last line ended
+abbrev pub closed : List ℕ → List ℕ
+closed text = text ++ line_feed ∷ []
+
+-- each line of the text can be read
+abbrev pub IsReadable : List ℕ → Type 0
+IsReadable text = (counts : Counts) × Counted text counts
+
+-- no line of the text is a notification
+abbrev pub HasNoNotes : List ℕ → Type 0
+HasNoNotes text = (counts : Counts) × Counted text counts × (counts.notes ≡ 0)
+
+-- How an input is read: as it is. If what is found is asked for, and no line is a notification, it
+-- is read with its last line ended, too.
+abbrev pub IsReadAs : Bool → List ℕ → List ℕ → Type 0
+IsReadAs verbose bytes text =
+    (text ≡ bytes) ⊎ ((verbose ≡ true) × HasNoNotes bytes × (text ≡ closed bytes))
+
 -- the text tells what the lines of the feed are
 pub record TellsCounts (options : CheckOptions) (bytes text : List ℕ) : Type 0 where
   pub counts : Counts
   pub counted : Counted bytes counts
+  pub closes : options.verbose ≡ true → counts.notes ≡ 0 → IsReadable (closed bytes)
   pub more : List ℕ
   pub says : TellsMore options.verbose bytes more
   pub is : text ≡ counts_text counts ++ more
@@ -82,12 +101,15 @@ pub record InputStops (old new : Option (List ℕ)) (why : SurveyFault) : Type 0
   pub whole : IsWhole old new bytes
   pub stops : StopsAt bytes why.line why.stop
 
--- the same, and the place that is reported is one in that line
-pub record InputStopsWithin (old new : Option (List ℕ)) (why : SurveyStop) : Type 0 where
+-- the same of the input as it is read, and the place that is reported is one in that line
+pub record InputStopsWithin (verbose : Bool) (old new : Option (List ℕ))
+    (why : SurveyStop) : Type 0 where
   pub bytes : List ℕ
   pub whole : IsWhole old new bytes
-  pub stops : StopsAt bytes why.fault.line why.fault.stop
-  pub placed : IsPlaced bytes why.fault.line why.spot
+  pub text : List ℕ
+  pub read_as : IsReadAs verbose bytes text
+  pub stops : StopsAt text why.fault.line why.fault.stop
+  pub placed : IsPlaced text why.fault.line why.spot
 
 -- the input has more bytes than that
 pub record IsTooLong (most : ℕ) (old new : Option (List ℕ)) : Type 0 where
@@ -113,10 +135,15 @@ SurveyFails (fault.Survey why) bytes =
 SurveyFails fault.Memory bytes = Unit {0}
 SurveyFails why bytes = ⊥
 
+-- the same of a feed as it is read
+abbrev pub ReadingFails : Bool → Fault → List ℕ → Type 0
+ReadingFails verbose why bytes =
+    (text : List ℕ) × IsReadAs verbose bytes text × SurveyFails why text
+
 -- what was read where the input can't be counted
-abbrev pub CountFails : Fault → Option (List ℕ) → Option (List ℕ) → Type 0
-CountFails (fault.Survey why) old new = InputStopsWithin old new why
-CountFails why old new = InputFails why old new
+abbrev pub CountFails : Bool → Fault → Option (List ℕ) → Option (List ℕ) → Type 0
+CountFails verbose (fault.Survey why) old new = InputStopsWithin verbose old new why
+CountFails verbose why old new = InputFails why old new
 
 -- the input was counted, and the counts were printed
 pub record CountsPrinted (options : CheckOptions) (s : Streams) : Type 0 where
@@ -134,4 +161,5 @@ pub record CountsPrintedPrefix (options : CheckOptions) (s : Streams) : Type 0 w
 -- counted
 abbrev pub CheckFails : CheckOptions → Fault → Streams → Type 0
 CheckFails options fault.Write s = CountsPrintedPrefix options s
-CheckFails options why s = CountFails why s.input_old s.input_new × Keeps s.out_old s.out_new
+CheckFails options why s =
+    CountFails options.verbose why s.input_old s.input_new × Keeps s.out_old s.out_new

@@ -1,5 +1,5 @@
 -- What the command `check --stream` reads and prints: a feed of any length, read piece by piece.
-use Rattle.std.specs.Prelude.{◌≡◌, ◌+◌, ◌<◌, ◌≤◌, ◌^◌, ◌*◌, ℕ, Bool, true, List, [], ◌++◌, length, Option}
+use Rattle.std.specs.Prelude.{◌≡◌, ◌⊎◌, ◌+◌, ◌<◌, ◌≤◌, ◌^◌, ◌*◌, ℕ, Bool, true, List, [], ◌++◌, length, Option}
 use Rattle.std.specs.List.{AllByRecursion, AllZip, list_any}
 use Rattle.std.specs.BTreeSet.{contains_text}
 use Rattle.std.specs.Io.KnownBytes.{Appends, Consumes, IsAtEnd, Keeps}
@@ -11,7 +11,7 @@ use Rattle.feed_note.specs.declared.line.Line.{Line}
 use Rattle.feed_note.specs.declared.counts.SurveyFault.{SurveyFault}
 use Rattle.feed_note.specs.declared.stop.LineStop.{LineStop}
 use Rattle.feed_http.specs.Device.{AppendsPrefix}
-use Rattle.feed_commands.specs.Check.{TellsCounts}
+use Rattle.feed_commands.specs.Check.{TellsCounts, HasNoNotes, closed}
 use Rattle.feed_commands.specs.Findings.{has_this, comes_again, is_tokenless, of_each, IsFound, IsOlder, IsMisnamed, ReadsOneLine}
 use Rattle.feed_commands.specs.Streams.{Streams}
 use Rattle.feed_commands.specs.declared.commands.findings.Reader.{Reader}
@@ -59,6 +59,26 @@ StreamFails fault.Read old new = Unit {0}
 StreamFails fault.TooManyReads old new = StreamReadOn old new
 StreamFails why old new = ⊥
 
+-- the whole input was read, no line of it is a notification, and it stops at this line once its
+-- last line has ended
+pub record ClosedStops (old new : Option (List ℕ)) (why : SurveyFault) : Type 0 where
+  pub bytes : List ℕ
+  pub read : Consumes old new bytes
+  pub end : IsAtEnd new
+  pub none : HasNoNotes bytes
+  pub stops : StopsAt (closed bytes) why.line why.stop
+
+abbrev pub ClosingFails : Fault → Option (List ℕ) → Option (List ℕ) → Type 0
+ClosingFails (fault.Survey why) old new = ClosedStops old new why.fault
+ClosingFails fault.Memory old new = Unit {0}
+ClosingFails why old new = ⊥
+
+-- what was read where the input can't be counted; its last line is ended at the end where what is
+-- found is asked for
+abbrev pub StreamCountFails : Bool → Fault → Option (List ℕ) → Option (List ℕ) → Type 0
+StreamCountFails verbose why old new =
+    StreamFails why old new ⊎ ((verbose ≡ true) × ClosingFails why old new)
+
 -- the input was counted, and the counts were printed
 pub record StreamPrinted (options : CheckOptions) (s : Streams) : Type 0 where
   pub text : List ℕ
@@ -75,7 +95,8 @@ pub record StreamPrintedPrefix (options : CheckOptions) (s : Streams) : Type 0 w
 -- counted
 abbrev pub StreamCheckFails : CheckOptions → Fault → Streams → Type 0
 StreamCheckFails options fault.Write s = StreamPrintedPrefix options s
-StreamCheckFails options why s = StreamFails why s.input_old s.input_new × Keeps s.out_old s.out_new
+StreamCheckFails options why s =
+    StreamCountFails options.verbose why s.input_old s.input_new × Keeps s.out_old s.out_new
 
 -- ---- one line more
 
@@ -155,4 +176,5 @@ pub record IsAllTaken (verbose : Bool) (old new : Option (List ℕ))
   pub bytes : List ℕ
   pub read : Consumes old new bytes
   pub end : IsAtEnd new
+  pub few : length bytes + 1 < 2 ^ 64
   pub taken : HasTaken verbose bytes reading

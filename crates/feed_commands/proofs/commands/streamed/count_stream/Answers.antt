@@ -1,23 +1,20 @@
-use Rattle.std.proofs.Common.{rules, ◌≡◌, ◌∙◌, ◌++◌, [], length, sym, ap, subst, true, false, true≢false, Some}
-use Rattle.std.specs.Option.{option_map_or}
-use Rattle.feed_commands.specs.Check.{counts_text}
-use Rattle.feed_commands.specs.Findings.{findings_text}
-use Rattle.feed_commands.specs.Streamed.{IsAllTaken}
-use Rattle.feed_commands.proofs.StreamedLemmas.{with_rest, stream_counted}
-use Rattle.feed_commands.proofs.commands.streamed.count_stream.Goals.{then-options, else-options}
+use Rattle.std.proofs.Common.{subst, sym}
+use Rattle.feed_commands.specs.Fault.{fault_of_survey}
+use Rattle.feed_commands.specs.Streamed.{IsAllTaken, ClosingFails, StreamFails}
+use Rattle.feed_commands.proofs.StreamedLemmas.{stream_counted, closing_stops, told_fails}
 use Rattle.feed_commands.proofs.commands.streamed.count_stream.Goals as goal
 
 pub returns-clause-ok : goal.returns-clause-ok
 returns-clause-ok g c =
-    let reading = c.take_all.new.reading in
-    let all = subst (λ v. IsAllTaken v (g.R.FeedRead.remaining c.args.input.now) (g.R.FeedRead.remaining c.take_all.new.input) reading) c.new-reading.ensures.verbose_is c.in_default.ensures.ok in
-    let size : c.len-rest.result ≡ length reading.left.items = search rules in
-    let is = c.in_ok-text.ensures ∙ ap (λ n. counts_text (with_rest reading.tally.counts n) ++ option_map_or findings_text c.if-options.findings []) size in
-    elim c.if-options.branch [
-      | then-options w ↦
-          let given : c.args.options.verbose ≡ true = search rules in
-          stream_counted c.args.options _ _ reading _ c.if-options.findings all (λ v. w.findings-is ∙ ap (λ f. Some f) w.findings.ensures) (λ v. absurd (true≢false (sym given ∙ v))) is
-      | else-options w ↦
-          let not_given : c.args.options.verbose ≡ false = search rules in
-          stream_counted c.args.options _ _ reading _ c.if-options.findings all (λ v. absurd (true≢false (sym v ∙ not_given))) (λ v. w.findings-is) is
-    ]
+    let all = subst (λ v. IsAllTaken v (g.R.FeedRead.remaining c.args.input.now) (g.R.FeedRead.remaining c.take_all.new.input) c.take_all.new.reading) c.new-reading.ensures.verbose_is c.in_default.ensures.ok in
+    stream_counted c.args.options _ _ c.take_all.new.reading _ all (λ h none. c.in_default-close.ensures.ok _ h none) c.in_ok-text.ensures.plain c.in_ok-text.ensures.full
+
+pub returns-in-Err-close-clause-err : goal.returns-in-Err-close-clause-err
+returns-in-Err-close-clause-err g c =
+    let all = subst (λ v. IsAllTaken v (g.R.FeedRead.remaining c.args.input.now) (g.R.FeedRead.remaining c.take_all.new.input) c.take_all.new.reading) c.new-reading.ensures.verbose_is c.in_default.ensures.ok in
+    let a = g.R.FeedRead.remaining c.args.input.now in
+    let b = g.R.FeedRead.remaining c.take_all.new.input in
+    told_fails c.args.options.verbose (fault_of_survey c.in-Err-close.fault) c.reported-in-Err-close.result a b
+    (λ h. c.reported-in-Err-close.ensures.fails a b (subst (λ w. StreamFails w a b) (sym c.from.ensures) h))
+    (λ h. c.reported-in-Err-close.ensures.closing a b (subst (λ w. ClosingFails w a b) (sym c.from.ensures) h))
+    (closing_stops c.args.options.verbose a b c.take_all.new.reading c.in-Err-close.fault all (c.in-Err-close.ensures.err c.args.options.verbose all.bytes all.taken))

@@ -16,7 +16,7 @@ returns-in_err-take_piece-clause-err g c =
 
 pub returns-then-not-branch-clause-ok : goal.returns-then-not-branch-clause-ok
 returns-then-not-branch-clause-ok g c =
-    input_all _ _ _ _ _ (c.in_ok-take_piece.ensures.end c.if-not-branch.true) (c.in_ok-take_piece.ensures.ok _ _ _ c.pieces.invariant.taken)
+    input_all _ _ c.pieces._turn _ _ _ (omega (arith, c.pieces-test.true)) (c.in_ok-take_piece.ensures.end c.if-not-branch.true) (c.in_ok-take_piece.ensures.ok _ _ _ c.pieces.invariant.taken)
 
 pub returns-clause-err : goal.returns-clause-err
 returns-clause-err g c = input_on _ c.pieces._turn _ _ _ (omega (arith, c.pieces-test.false)) c.pieces.invariant.taken
