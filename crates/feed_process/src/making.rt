@@ -2,8 +2,10 @@
 
 use crate::watching::Watched;
 use feed_answer::{Identity, Place};
-use feed_commands::{AddressFault, Fault, LiveOptions, NetworkFault, Server, VERSION, servers_of};
-use feed_host::{Failure, Hosts, identity_of};
+use feed_commands::{
+    AddressFault, Fault, LiveOptions, NetworkFault, Server, UpstreamOptions, VERSION, servers_of,
+};
+use feed_host::{Failure, Hosts, identity_of, is_itself};
 use feed_node::Limits;
 use feed_state::{About, FileTexts, Kept, StateFault, take_state};
 use feed_system::{Resources, ServerName, StartFault, open};
@@ -12,6 +14,12 @@ use std::fs::File;
 use std::io;
 use std::io::ErrorKind;
 use std::time::Instant;
+
+/// Why a server is refused that is the relay itself.
+const ITSELF: &str = "a relay can't follow itself";
+
+/// Why a state file is refused whose name is empty.
+const NO_NAME: &str = "--state names no file";
 
 /// The servers: the hosts that they are of, and what each is asked for.
 #[derive(Drop)]
@@ -41,12 +49,26 @@ impl Asked {
     }
 }
 
+/// The relay can't follow itself, as a list of servers that is the same for all relays has it.
+fn refuse_itself(
+    rt: &HostRuntime,
+    options: &LiveOptions<'_>,
+    host: &str,
+    port: u16,
+) -> Result<(), Failure> {
+    if !is_itself(rt, options, host, port) {
+        return Ok(());
+    }
+    let text = format!(in rt.alloc(); "a relay can't follow itself: it listens at {host}:{port}");
+    Err(Failure::refused_for(text, ITSELF))
+}
+
 /// The servers that are asked: none where the feed is the input.
 fn servers(
     rt: &HostRuntime,
     options: &LiveOptions<'_>,
     identity: &Identity,
-) -> Result<Asked, Fault> {
+) -> Result<Asked, Failure> {
     let mut asked = Asked {
         hosts: Vec::new(rt.alloc()),
         places: Vec::new(rt.alloc()),
@@ -56,13 +78,14 @@ fn servers(
     };
     let hosts = Hosts::new(rt.alloc(), upstream)?;
     let named = hosts.named(upstream);
-    for server in servers_of(rt.alloc(), &named, options.contest, identity)? {
+    for server in listed(rt, &named, options.contest, identity)? {
         let Server {
             host,
             port,
             place,
             ..
         } = server;
+        refuse_itself(rt, options, host.as_str(), port)?;
         asked.push(rt, host, port, &place)?;
     }
     Ok(asked)
@@ -211,28 +234,45 @@ fn kept(rt: &HostRuntime, options: &LiveOptions<'_>) -> Result<Option<Kept<File>
     let Some(path) = options.state else {
         return Ok(None);
     };
+    if path.is_empty() {
+        return Err(Failure::refused(NO_NAME));
+    }
     match take_state(rt, path, options.contest, VERSION, options.is_new) {
         Ok(kept) => Ok(Some(to_be_read(rt, options, kept))),
         Err(fault) => Err(of_state(rt.alloc(), path, &fault)),
     }
 }
 
+/// The servers of these options. What is wrong with them is found before what is wrong with the
+/// user: they are listed once for nobody in particular, since each borrows the identity.
+fn listed<'i>(
+    rt: &HostRuntime,
+    upstream: &UpstreamOptions<'_>,
+    contest: &str,
+    identity: &'i Identity,
+) -> Result<Vec<Server<'i>>, Failure> {
+    match servers_of(rt.alloc(), upstream, contest, identity) {
+        Ok(servers) => Ok(servers),
+        Err(fault) => Err(of_servers(rt.alloc(), fault)),
+    }
+}
+
 /// As whom servers are asked: as nobody in particular where the feed is the input.
 fn identity(rt: &HostRuntime, options: &LiveOptions<'_>) -> Result<Identity, Failure> {
-    match &options.upstream {
-        Some(upstream) => identity_of(rt, upstream.host_header, upstream.user_file),
-        None => Ok(Identity::anonymous()),
-    }
+    let nobody = Identity::anonymous();
+    let Some(upstream) = &options.upstream else {
+        return Ok(nobody);
+    };
+    let hosts = Hosts::new(rt.alloc(), upstream)?;
+    listed(rt, &hosts.named(upstream), options.contest, &nobody)?;
+    identity_of(rt, upstream.host_header, upstream.user_file)
 }
 
 /// Takes the state files.
 fn make_plan(rt: &HostRuntime, options: &LiveOptions<'_>) -> Result<Plan, Failure> {
     let contest = needs_memory(String::from_str(rt.alloc(), options.contest))?;
     let identity = identity(rt, options)?;
-    let Asked { hosts, places } = match servers(rt, options, &identity) {
-        Ok(asked) => asked,
-        Err(fault) => return Err(of_servers(rt.alloc(), fault)),
-    };
+    let Asked { hosts, places } = servers(rt, options, &identity)?;
     let kept = kept(rt, options)?;
     Ok(Plan {
         contest,

@@ -5,7 +5,7 @@ mod watching;
 
 use feed_commands::{Fault, LiveOptions, Verbosity};
 use feed_device::Devices;
-use feed_host::Failure;
+use feed_host::{Failure, lack_of_files};
 use feed_live::{Following, Given, Host, Input, Live, Restored, RunFault, Turn, run};
 use feed_process::{Watched, Words, fault_of_system, report_of};
 use feed_state::{About, StateStore};
@@ -180,6 +180,14 @@ impl<'r> Engine<'r> {
         }
     }
 
+    /// Says so where not all screens can be let in.
+    fn report_room(&mut self) -> Result<(), AllocError> {
+        if let Some(text) = lack_of_files(self.rt.alloc(), self.options)? {
+            self.line(text.as_str());
+        }
+        Ok(())
+    }
+
     /// Says where screens are listened to, where they are.
     fn report_port(&mut self) -> Result<(), AllocError> {
         if let Some(port) = self.options.listen {
@@ -199,6 +207,7 @@ impl<'r> Host<Port, Servers<'r>, StateStore<&'r HostRuntime>> for Engine<'r> {
             self.line(text.as_str());
         }
         self.report_port()?;
+        self.report_room()?;
         Ok(())
     }
 
