@@ -106,6 +106,9 @@ settle = with_default (codes "2000") (number_between (codes "settle") 0 most_set
 abbrev pub fresh : Rule
 fresh = flag (codes "fresh")
 
+abbrev pub serve_broken : Rule
+serve_broken = flag (codes "serve-broken")
+
 abbrev pub no_recheck : Rule
 no_recheck = flag (codes "no-recheck")
 
@@ -136,7 +139,7 @@ upstream = options.contest ∷ host ∷ port ∷ base ∷ from ∷ host_header �
 
 -- those that say how a feed is asked for, when it is shown, and until when it is followed
 abbrev pub settling : List Rule
-settling = settle ∷ fresh ∷ no_recheck ∷ return_after ∷ until_eof ∷ []
+settling = settle ∷ fresh ∷ serve_broken ∷ no_recheck ∷ return_after ∷ until_eof ∷ []
 
 -- those that say to whom it is served
 abbrev pub listener : List Rule
@@ -210,6 +213,7 @@ pub record AsksLive (rows : List Row) (options : LiveOptions) : Type 0 where
   pub return_is : IsNumberUpTo (codes "return") most_return rows options.return_after
   pub hold_is : IsNumberUpTo (codes "hold") most_hold rows options.hold
   pub serve_old_is : IsGiven (codes "serve-old") rows options.serve_old
+  pub serve_broken_is : IsGiven (codes "serve-broken") rows options.serve_broken
   pub until_eof_is : IsGiven (codes "until-eof") rows options.until_eof
   pub verbose_is : IsGiven (codes "verbose") rows (is_verbose options.verbosity)
   pub quiet_is : IsGiven (codes "quiet") rows (is_quiet options.verbosity)

@@ -193,6 +193,8 @@ pub struct LiveOptions<'a> {
     pub hold: u64,
     /// Whether the state of the file is served before a server was heard.
     pub serve_old: bool,
+    /// Whether a feed that breaks at one place twice is served up to there, where nothing is shown.
+    pub serve_broken: bool,
     /// Whether the command ends where standard input does.
     pub until_eof: bool,
     /// How much is reported.

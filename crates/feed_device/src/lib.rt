@@ -12,5 +12,5 @@ mod reports;
 pub use desk::Desk;
 pub use device::{Before, Devices, FileSlot, Link, Ready, Sockets, Stop, Store};
 pub use lines::whole_line;
-pub use report::{Excerpt, How, Lack, Report, Why};
+pub use report::{CameSo, Excerpt, How, Lack, Report, Why};
 pub use reports::Reports;

@@ -164,6 +164,23 @@ fn printable(byte: u8) -> u8 {
     }
 }
 
+/// Why what a server sent that was asked for everything is shown.
+#[derive(Clone, Copy, PartialEq, Eq)]
+pub enum CameSo {
+    /// It was quiet.
+    Quiet,
+    /// It was quiet for long, and is smaller than what was shown.
+    Small,
+    /// Its body ended, complete.
+    Ended,
+    /// It came for so long without being quiet.
+    Late,
+    /// It broke, and goes on from what was shown.
+    GoesOn,
+    /// It broke at one place twice, and such a feed is asked for.
+    Broken,
+}
+
 /// What happened, as it is reported. Times are in milliseconds, and servers have their numbers.
 #[derive(Clone, Copy)]
 pub enum Report {
@@ -248,11 +265,25 @@ pub enum Report {
         server: usize,
         token: Excerpt,
     },
-    /// What a server sent when it was asked for everything has settled, so long after its first
-    /// byte: it is shown now.
+    /// What a server sent when it was asked for everything is shown now, so long after the first
+    /// attempt, and why.
     Settled {
         server: usize,
         time: u64,
+        way: CameSo,
+    },
+    /// What a server sent was quiet, and is smaller than what is shown: it has to be quiet for so
+    /// long.
+    Held {
+        server: usize,
+        time: u64,
+    },
+    /// What a server sends that is asked for everything broke behind this token twice, the last
+    /// time at this line; it is empty if the connection ended there. It isn't shown.
+    Broken {
+        server: usize,
+        token: Excerpt,
+        line: Excerpt,
     },
     /// So much came of a server that was asked for everything, in so long, and has not settled yet;
     /// and whether a line had a token.

@@ -3,7 +3,7 @@
 ghost use Rattle.std.specs.Prelude.{◌≡◌};
 
 use crate::reasons::{FollowFailure, Following, KINDS, REASONS, Reason};
-use feed_device::{Desk, Lack, Report, Why};
+use feed_device::{Desk, Excerpt, Lack, Report, Why};
 
 /// After so many milliseconds in which changes waited for a token, there may be none.
 pub const LONG_WAIT: u64 = 10_000;
@@ -35,6 +35,15 @@ pub struct FeedFigures {
     pub coming_lines: u64,
     /// How many bytes came on it; zero, too, where none is to settle.
     pub coming_bytes: u64,
+    /// Since when everything is asked for, and nothing of it was shown.
+    pub afresh: Option<u64>,
+    /// Whether what comes is held back, since it is smaller than what is shown.
+    pub is_held: bool,
+    /// The token behind which all that is sent breaks each time, and the line there; that is empty
+    /// if the connection ends there.
+    pub stuck: Option<(Excerpt, Excerpt)>,
+    /// Whether the server gave one token to two states on this connection.
+    pub gives_twice: bool,
     /// When the last commit was published, where one was since the start.
     pub committed: Option<u64>,
     /// How the last attempt failed, and when.
@@ -64,6 +73,10 @@ impl FeedFigures {
             bytes: 0,
             coming_lines: 0,
             coming_bytes: 0,
+            afresh: None,
+            is_held: false,
+            stuck: None,
+            gives_twice: false,
             committed: None,
             failed: None,
             failed_by: REASONS.map(|reason| (reason, 0)),
@@ -78,6 +91,14 @@ impl FeedFigures {
         FeedFigures {
             coming_lines,
             coming_bytes,
+            ..self
+        }
+    }
+
+    /// The same, with whether one token was given to two states.
+    pub fn with_twice(self, gives_twice: bool) -> FeedFigures {
+        FeedFigures {
+            gives_twice,
             ..self
         }
     }
@@ -117,14 +138,16 @@ impl FeedFigures {
     /// Things stand like this with the server, since now where they stood otherwise.
     pub fn change(&mut self, following: Following, now: u64) {
         if self.following != following {
+            self.is_held = false;
             self.following = following;
             self.changed = now;
         }
     }
 
-    /// A server is asked.
-    pub fn ask(&mut self, server: usize, now: u64) {
+    /// A server is asked, for everything or for what comes after our token.
+    pub fn ask(&mut self, server: usize, is_afresh: bool, now: u64) {
         self.server = server;
+        self.afresh = is_afresh.then_some(self.afresh.unwrap_or(now));
         self.waiting = 0;
         self.is_warned = false;
         self.change(Following::Asked, now);
@@ -137,9 +160,23 @@ impl FeedFigures {
         let following = if is_to_settle {
             Following::Settling
         } else {
+            self.stuck = None;
             Following::Answered
         };
         self.change(following, now);
+    }
+
+    /// What came afresh is shown. For how long everything was asked for.
+    pub fn settle(&mut self, now: u64) -> u64 {
+        let since = self.afresh.take().unwrap_or(now);
+        self.stuck = None;
+        self.change(Following::Answered, now);
+        now.saturating_sub(since)
+    }
+
+    /// What comes is held back.
+    pub fn hold(&mut self) {
+        self.is_held = true;
     }
 
     /// The server is lost.

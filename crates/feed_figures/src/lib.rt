@@ -3,6 +3,8 @@
 
 mod figures;
 mod reasons;
+mod servers;
 
 pub use figures::{FeedFigures, LONG_WAIT};
 pub use reasons::{FollowFailure, Following, KINDS, Reason};
+pub use servers::{ServerFigures, Servers};

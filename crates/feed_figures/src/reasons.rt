@@ -105,6 +105,15 @@ impl FollowFailure {
             FollowFailure::Left(_) => Reason::Refuses,
         }
     }
+
+    /// The status that the server answered with, where it did with another one than 200.
+    pub fn status(&self) -> Option<u16> {
+        match self {
+            FollowFailure::TokenRefused => Some(400),
+            FollowFailure::Left(Why::Fault(FollowFault::Status(status))) => Some(*status),
+            FollowFailure::Left(_) => None,
+        }
+    }
 }
 
 impl fmt::Display for FollowFailure {

@@ -20,7 +20,7 @@ use Rattle.feed_live.specs.declared.source.Reach.{Reach}
 use Rattle.feed_live.specs.declared.source.Reach.TheVariants.{Away}
 use Rattle.feed_live.specs.declared.source.returning.Returning.{Returning}
 use Rattle.feed_live.specs.Leaving.{BeginsOne, IsToLeave, has_left_quiet, is_past, late_at, why_late, why_left}
-use Rattle.feed_live.specs.Leading.{is_first, look_time}
+use Rattle.feed_live.specs.Leading.{asks_all, is_first, look_time}
 use Rattle.feed_live.specs.declared.source.leading.Leading.{Leading}
 use Rattle.feed_live.specs.declared.source.patience.Patience.{Patience}
 use Rattle.feed_live.specs.declared.source.rechecking.Rechecking.{Rechecking}
@@ -101,7 +101,7 @@ answers_by place leading patience = if is_some leading.looks_from || patience.is
 answered_by : ℕ → Leading → Rechecking → Settling → Option ℕ → Bool
 answered_by place leading rechecking settling body_since =
     is_some body_since && not (is_some leading.looks_from && is_some rechecking.again)
-    && not ((leading.wants_all && is_first leading place) && nat_eq settling.lines 0)
+    && not (asks_all leading place && nat_eq settling.lines 0)
 
 why_by : Upstream → Reach → Returning → Leading → Patience → Rechecking → Settling → ℕ → Option ℕ → ℕ → ℕ → Option Why
 why_by upstream reach returning leading patience rechecking settling opened body_since idle now =

@@ -1,9 +1,11 @@
 -- What is known of what comes afresh, beside what is shown.
-use Rattle.std.specs.Prelude.{◌≡◌, ◌↔◌, IsTrue, Bool, true, false, ◌&&◌, ◌||◌, not, ℕ, List, bytes_eq, is_some, Option, Some, None}
+use Rattle.std.specs.Prelude.{◌≡◌, ◌↔◌, IsTrue, Bool, true, false, ◌&&◌, ◌||◌, not, ℕ, List, bytes_eq, is_some, is_none, Option, Some, None}
 use Rattle.feed_node.specs.Mirroring.{MirrorState}
 use Rattle.feed_node.specs.Publishing.{Published}
 use Rattle.feed_node.specs.States.{NodeState, published_token, holds_token}
 use Rattle.feed_live.specs.declared.source.Source.{Source}
+use Rattle.feed_live.specs.declared.source.settling.ending.End.{End}
+use Rattle.feed_live.specs.declared.source.settling.ending.End.TheVariants.{Whole, Cut, Bad}
 
 -- both are there, and the same
 abbrev pub are_one : Option (List ℕ) → Option (List ℕ) → Bool
@@ -68,3 +70,15 @@ pub record Compares (old new : Source) (coming : MirrorState) : Type 0 where
       → new.is_heard ≡ (old.is_heard || new.settling.is_same)
   pub stays : is_to_compare old coming ≡ false
       → (new.settling ≡ old.settling) × (new.is_heard ≡ old.is_heard)
+
+-- A feed broke: it was cut, or has a line that can't be followed. Only a complete body did not.
+abbrev pub is_broken : End → Bool
+is_broken Whole = false
+is_broken Cut = true
+is_broken (Bad line) = true
+
+-- One that broke may be shown: nothing is, and such a feed is asked for.
+abbrev pub may_show_broken : Source → Bool
+may_show_broken source =
+    source.settling.serves_broken
+    && is_none (published_token source.answers.shown.mirror.node)

@@ -2,17 +2,16 @@
 use Rattle.std.specs.Prelude.{Bool, ◌&&◌, ◌||◌, ◌==◌, not, is_some, is_none}
 use Rattle.feed_node.specs.States.{published_token}
 use Rattle.feed_live.specs.declared.source.Source.{Source}
-use Rattle.feed_live.specs.Leading.{is_first}
+use Rattle.feed_live.specs.Leading.{asks_all}
 
 -- nothing was shown yet, and what comes is to settle
 abbrev pub is_first_start : Source → Bool
 is_first_start source =
     is_some source.coming && is_none (published_token source.answers.shown.mirror.node)
 
--- The next connection asks the first server for everything, though our token is known: it refused
--- that twice.
+-- The next connection asks for everything, though our token is known.
 abbrev pub wants_all : Source → Bool
-wants_all source = source.leading.wants_all && is_first source.leading source.upstream.place
+wants_all source = asks_all source.leading source.upstream.place
 
 -- What the next connection sends is to settle before it is shown: it asks for everything, and that
 -- is to settle, or each connection asks so, or this one does.

@@ -2,6 +2,7 @@
 -- All times are in milliseconds.
 use Rattle.std.specs.Prelude.{◌≡◌, ℕ, ◌+◌, ◌-◌, ◌*◌, ◌^◌, Bool, false, not, ◌&&◌, nat_eq, nat_le, nat_lt, min, max, if◌then◌else◌, Option, Some, None, is_some}
 use Rattle.feed_hub.specs.Upstream.{later}
+use Rattle.feed_device.specs.declared.report.Lack.{Lack}
 use Rattle.feed_live.specs.declared.source.leading.Leading.{Leading}
 
 -- a place is one of the first server
@@ -30,6 +31,22 @@ abbrev pub is_other_log : Leading → ℕ → ℕ → Bool
 is_other_log leading place now =
     is_first leading place && has_refused leading.refused_at now
     && not (was_behind leading.behind_at now) && nat_lt 0 leading.others
+
+-- All is to be asked of a server, though our token is known: of the first one, since it refused that
+-- twice; of another one, since the first one's log took the place of ours. That one may have the
+-- old log, with the same tokens.
+abbrev pub asks_all : Leading → ℕ → Bool
+asks_all leading place = if is_first leading place then leading.wants_all else leading.is_alone
+
+-- the first one hasn't been followed for a minute
+abbrev pub has_lacked : Option (Lack × ℕ) → ℕ → Bool
+has_lacked None now = false
+has_lacked (Some lack) now = nat_le (later lack.1 60000) now
+
+-- until then no other one is asked
+abbrev pub is_shut_out : Leading → ℕ → ℕ → Bool
+is_shut_out leading place now =
+    leading.is_alone && not (is_first leading place) && not (has_lacked leading.lack now)
 
 -- another server, of this place, is followed in place of the first one
 abbrev pub is_instead : Leading → ℕ → Bool

@@ -4,7 +4,7 @@ use Rattle.feed_device.specs.Calls.{LinkCalls, HasBegun}
 use Rattle.feed_device.specs.Links.{Exchange, Exchanges}
 use Rattle.feed_device.specs.declared.report.Why.{Why}
 use Rattle.feed_device.specs.declared.report.Why.TheVariants.{Unknown, Refuses, Late, NoAnswer, Broke, Ended, Silent, Fault, Memory}
-use Rattle.feed_hub.specs.Upstream.{counted_on, later}
+use Rattle.feed_hub.specs.Upstream.{asked_in_turn, counted_on, has_another, later, next_place}
 use Rattle.feed_node.specs.States.{NodeState, former_token, holds_token, published_token}
 use Rattle.feed_live.specs.declared.source.Reach.{Reach}
 use Rattle.feed_live.specs.declared.source.Reach.TheVariants.{Away, Connects, Asks, Reads}
@@ -12,8 +12,9 @@ use Rattle.feed_live.specs.declared.source.Source.{Source}
 use Rattle.feed_live.specs.declared.source.returning.Returning.{Returning}
 use Rattle.feed_live.specs.declared.source.rechecking.Brought.{Brought}
 use Rattle.feed_live.specs.declared.source.rechecking.Brought.TheVariants.{Nothing, Newest, Another}
+use Rattle.feed_live.specs.Afresh.{is_at_shown}
 use Rattle.feed_live.specs.Answering.{wants_all}
-use Rattle.feed_live.specs.Leading.{is_first, is_instead, is_other_log, look_time}
+use Rattle.feed_live.specs.Leading.{is_first, is_instead, is_other_log, is_shut_out, look_time}
 use Rattle.feed_live.specs.Relaying.{GoesOnTo}
 
 -- a time that there may be is past
@@ -203,6 +204,15 @@ refused_after source now =
     then source.upstream.refused
     else counted_on source.upstream.refused source.upstream.places
 
+-- When the next one is asked once this one refuses the token: at once. If the others have yet to
+-- refuse it, the next of them in its turn: the first one once a second at most.
+abbrev pub asked_after_refusal : Source → ℕ → ℕ
+asked_after_refusal source now =
+    if is_look source || is_other_log source.leading source.upstream.place now
+    || not (has_another source.upstream.refused source.upstream.places) then now
+    else asked_in_turn (next_place source.upstream.place source.upstream.places)
+    (later source.upstream.began 1000) now
+
 -- ---- the first server, where another one is followed in its place
 
 -- When it is looked at: when its time has come, and the other one was followed for two seconds.
@@ -215,10 +225,10 @@ look_at source Away = None
 look_at source (Connects since) = None
 look_at source (Asks count) = None
 
--- No connection is to be begun to another server: the first one's log took the place of ours.
-abbrev pub is_passed_over : Source → Bool
-is_passed_over source =
-    source.leading.is_alone && not (is_first source.leading source.upstream.place)
+-- No connection is to be begun to another server: the first one's log took the place of ours, and it
+-- has not lacked for a minute.
+abbrev pub is_passed_over : Source → ℕ → Bool
+is_passed_over source now = is_shut_out source.leading source.upstream.place now
 
 -- A look at it begins: it is asked at once, and the other one where that fails.
 pub record LooksAtFirst (old new : Source) (now : ℕ) : Type 0 where
@@ -313,11 +323,12 @@ IsToStay source idle now =
     × (is_past (quiet_at source source.reach) now ≡ false)
     × (is_past (newest_time source) now ≡ false)
 
--- The feed of a server stood open for five seconds or more, and nothing of it is yet to settle.
+-- The feed of a server stood open for five seconds or more, and nothing of it is yet to settle, but
+-- for one that is at what is shown.
 abbrev pub stood_long : Source → ℕ → Bool
 stood_long source now =
     is_past (option_map (λ since. later since 5000) source.body_since) now
-    && is_none source.coming
+    && (is_none source.coming || is_at_shown source)
 
 -- The same place is asked again, at once; failures are counted from none, and the next pause is the
 -- shortest. The round of those that are left for having nothing new goes on.

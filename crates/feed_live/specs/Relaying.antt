@@ -125,13 +125,15 @@ servers_of source = record { places = source.places.items; identity = source.ide
 
 -- What a relay is set to of its servers: how many have their turn, after how long one is left that
 -- has nothing new, and for how long one has to be quiet that was asked for everything; whether
--- several have tokens of their own, and whether the newest commit is asked for again.
+-- several have tokens of their own; whether the newest commit is asked for again; and whether what
+-- breaks is shown where nothing else is.
 pub record SourceSettings : Type 0 where
   pub places : ℕ
   pub after : ℕ
   pub pause : ℕ
   pub is_strange : Bool
   pub rechecks : Bool
+  pub serves_broken : Bool
 
 abbrev pub settings_of : Source → SourceSettings
 settings_of source = record {
@@ -140,6 +142,7 @@ settings_of source = record {
   pause = source.settling.pause;
   is_strange = source.settling.is_strange;
   rechecks = source.rechecking.is_on;
+  serves_broken = source.settling.serves_broken;
 }
 
 -- the mirror that follows: one that began afresh, and nobody is shown yet, or the one that is shown

@@ -6,7 +6,7 @@ ghost use Rattle.feed_files.specs.Figures.{figures_of};
 ghost use Rattle.feed_live.specs.Answering.{is_answering};
 
 use crate::turn::Live;
-use feed_figures::FeedFigures;
+use feed_figures::{FeedFigures, ServerFigures};
 use feed_files::FileFigures;
 use feed_screens::{ScreenFigures, ScreenRow};
 use std::alloc::{AllocError, Global};
@@ -15,6 +15,11 @@ impl Live {
     /// What was counted of the feed.
     pub fn feed_figures(&self) -> FeedFigures {
         self.source.figures()
+    }
+
+    /// What is known of each server that was asked, at its number.
+    pub fn server_figures(&self) -> &[ServerFigures] {
+        self.source.servers()
     }
 
     /// What was counted of the screens. Takes time in proportion to how many there are.

@@ -23,7 +23,7 @@ mod times;
 mod turn;
 
 pub use feed_device::{Before, Devices, How, Link, Ready, Report, Sockets, Stop, Store, Why};
-pub use feed_figures::{FeedFigures, FollowFailure, Following, LONG_WAIT, Reason};
+pub use feed_figures::{FeedFigures, FollowFailure, Following, LONG_WAIT, Reason, ServerFigures};
 pub use feed_files::{FileFigures, Restored, restore};
 pub use feed_screens::{ScreenFigures, ScreenLimits, ScreenRow, ScreenTotals};
 pub use host::{Given, Host};

@@ -29,6 +29,8 @@ pub struct LiveLimits {
     pub hold: u64,
     /// Whether what was restored is served before a server was heard.
     pub serves_old: bool,
+    /// Whether a feed that breaks at one token twice is shown up to there, where nothing is shown.
+    pub serves_broken: bool,
     /// Whether there is a file that the state is kept in.
     pub has_store: bool,
     /// Whether the relay ends with the input.

@@ -29,7 +29,7 @@ use crate::source::settling::Settling;
 use crate::times::QUIET;
 use feed_answer::{Identity, Place};
 use feed_device::{Desk, Stop};
-use feed_figures::{FeedFigures, Following};
+use feed_figures::{FeedFigures, Following, ServerFigures, Servers};
 use feed_hub::{Answering, Upstream};
 use feed_node::{Mirror, Node};
 use feed_screens::Answers;
@@ -103,6 +103,8 @@ pub(crate) struct Source {
     has_more: bool,
     /// What is counted of it.
     figures: FeedFigures,
+    /// What is known of each server.
+    servers: Servers,
 }
 
 /// Whether requests may be answered before a server was heard: nothing old is to be shown, since
@@ -159,7 +161,8 @@ impl Source {
         ensures identity { result.identity ≡ identity }
         ensures rest { result.rest.items ≡ [] }
         ensures settles { (result.settling.pause ≡ limits.settle)
-            × (result.settling.is_always ≡ limits.is_fresh) }
+            × (result.settling.is_always ≡ limits.is_fresh)
+            × (result.settling.serves_broken ≡ limits.serves_broken) }
         ensures due { result.upstream.since ≡ desk.now.time }
         // no time that it keeps is one to come
         ensures times { (latest : ℕ) → desk.now.time ≤ latest → AreBy latest (times_of result) }
@@ -181,7 +184,12 @@ impl Source {
                 blank: Answering::new(blank, limits.screens.framing),
             },
             coming: None,
-            settling: Settling::new(limits.settle, limits.is_fresh, limits.are_strange),
+            settling: Settling::new(
+                limits.settle,
+                limits.is_fresh,
+                limits.are_strange,
+                limits.serves_broken,
+            ),
             ended: None,
             ended_whole: false,
             beginning: Beginning::new(desk.alloc),
@@ -201,6 +209,7 @@ impl Source {
             rest: Vec::new(desk.alloc),
             has_more: false,
             figures: FeedFigures::new(Following::Away, desk.time),
+            servers: Servers::new(desk.alloc),
         }
     }
 
@@ -249,7 +258,13 @@ impl Source {
         let lack = self.leading.lack(server, is_followed);
         self.figures
             .with_coming(coming_lines, coming_bytes)
+            .with_twice(self.has_reported_twice)
             .with_lack(self.leading.index(server), lack)
+    }
+
+    /// What is known of each server.
+    pub(crate) fn servers(&self) -> &[ServerFigures] {
+        self.servers.rows()
     }
 
     /// An event came for the connection.

@@ -45,6 +45,10 @@ pub(crate) const REFUSED_APART: u64 = 1_000;
 /// For how long a first server that was found to be behind us isn't asked for everything again.
 pub(crate) const ALL_APART: u64 = 60_000;
 
+/// How long a first server is waited for whose log just took the place of ours, where it fails:
+/// after that the others are asked for all that they have.
+pub(crate) const ALONE_TIME: u64 = 60_000;
+
 /// How long each server of a round is followed, or as long as the one before them where that is
 /// less.
 pub(crate) const ROUND_TIME: u64 = 10_000;

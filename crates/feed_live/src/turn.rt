@@ -141,7 +141,8 @@ impl Live {
         ensures connects { result.source.upstream.since ≡ now }
         ensures round { result.source.upstream.places ≡ max (length start.places.items) 1 }
         ensures settles { (result.source.settling.pause ≡ limits.settle)
-            × (result.source.settling.is_always ≡ limits.is_fresh) }
+            × (result.source.settling.is_always ≡ limits.is_fresh)
+            × (result.source.settling.serves_broken ≡ limits.serves_broken) }
     {
         let Start {
             places,

@@ -8,4 +8,6 @@ mod watching;
 
 pub use making::{Made, fault_of_system, make};
 pub use restoring::report_of;
-pub use watching::{Watched, Words, file_of, screen_of, screens_of, upstream_of};
+pub use watching::{
+    Standing, Watched, Words, file_of, screen_of, screens_of, server_of, upstream_of,
+};

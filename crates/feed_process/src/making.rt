@@ -257,15 +257,25 @@ fn listed<'i>(
     }
 }
 
-/// As whom servers are asked: as nobody in particular where the feed is the input.
-fn identity(rt: &HostRuntime, options: &LiveOptions<'_>) -> Result<Identity, Failure> {
-    let nobody = Identity::anonymous();
+/// Looks whether the servers are named rightly.
+fn look_at_servers(rt: &HostRuntime, options: &LiveOptions<'_>) -> Result<(), Failure> {
     let Some(upstream) = &options.upstream else {
-        return Ok(nobody);
+        return Ok(());
     };
     let hosts = Hosts::new(rt.alloc(), upstream)?;
-    listed(rt, &hosts.named(upstream), options.contest, &nobody)?;
-    identity_of(rt, upstream.host_header, upstream.user_file)
+    let named = hosts.named(upstream);
+    let nobody = Identity::anonymous();
+    listed(rt, &named, options.contest, &nobody)?;
+    Ok(())
+}
+
+/// As whom servers are asked: as nobody in particular where the feed is the input.
+fn identity(rt: &HostRuntime, options: &LiveOptions<'_>) -> Result<Identity, Failure> {
+    look_at_servers(rt, options)?;
+    match &options.upstream {
+        Some(upstream) => identity_of(rt, upstream.host_header, upstream.user_file),
+        None => Ok(Identity::anonymous()),
+    }
 }
 
 /// Takes the state files.

@@ -1,12 +1,12 @@
 //! What the status port tells, made of what the relay counts.
 
 use feed_commands::LiveOptions;
-use feed_figures::{FeedFigures, Following, LONG_WAIT, Reason};
+use feed_figures::{FeedFigures, Following, LONG_WAIT, Reason, ServerFigures};
 use feed_files::FileFigures;
 use feed_screens::{ScreenFigures, ScreenRow};
 use feed_status::{
     FailureCount, FileStatus, InPlaceOf, LastFailure, Latency, Plots, Refused, ScreensStatus,
-    UpstreamState, UpstreamStatus, WatchedScreen,
+    UpstreamState, UpstreamStatus, WatchedScreen, WatchedServer,
 };
 use feed_system::since_1970;
 use std::alloc::{AllocError, Global};
@@ -55,8 +55,12 @@ impl Watched {
 pub struct Words {
     /// The name of the server that it follows.
     pub name: String,
+    /// The names of all servers, in the order of their numbers.
+    pub servers: Vec<String>,
     /// Why the last attempt to follow one failed.
     pub failure: String,
+    /// Where all that it sends breaks each time; empty if it doesn't.
+    pub stuck: String,
     /// The name of the first server.
     pub first: String,
     /// Why that is not followed.
@@ -131,10 +135,67 @@ pub fn upstream_of<'a>(feed: &FeedFigures, words: &'a Words, now: u64) -> Upstre
         failed_by,
         coming_lines: feed.coming_lines,
         coming_bytes: feed.coming_bytes,
+        held: feed.is_held,
+        stuck: feed.stuck.map(|_| words.stuck.as_str()),
+        gives_twice: feed.gives_twice,
         waiting: feed.waiting,
         waiting_ms,
         lacks_tokens: waiting_ms >= LONG_WAIT,
     }
+}
+
+/// A copy of a text that may be missing.
+fn copy_of(alloc: Global, text: Option<&str>) -> Result<Option<String>, AllocError> {
+    match text {
+        Some(text) => Ok(Some(String::from_str(alloc, text)?)),
+        None => Ok(None),
+    }
+}
+
+/// How the feed stands at a time, in milliseconds, with this token shown.
+#[derive(Clone, Copy)]
+pub struct Standing<'f, 't> {
+    pub feed: &'f FeedFigures,
+    pub token: Option<&'t str>,
+    pub now: u64,
+}
+
+/// What is told of a server of this number and name.
+pub fn server_of(
+    alloc: Global,
+    number: usize,
+    name: &str,
+    server: &ServerFigures,
+    standing: Standing<'_, '_>,
+) -> Result<WatchedServer, AllocError> {
+    let Standing { feed, token, now } = standing;
+    let is_asked = feed.server == number && feed.following != Following::Away;
+    let is_followed = is_asked && feed.following == Following::Answered;
+    let token = if is_followed {
+        copy_of(alloc, token)?
+    } else {
+        copy_of(alloc, server.token.as_ref().map(|token| token.text()))?
+    };
+    let since = if is_asked {
+        Some(feed.changed)
+    } else {
+        server.left
+    };
+    let (failure, failed) = match server.failed {
+        Some((failure, at)) => (format!(in alloc; "{failure}")?, Some(at)),
+        None => (String::new(alloc), None),
+    };
+    Ok(WatchedServer {
+        name: String::from_str(alloc, name)?,
+        state: is_asked.then_some(state_of(feed.following)),
+        for_ms: since.map(|at| now.saturating_sub(at)),
+        asked: server.asked,
+        status: server.status,
+        failures: server.failures,
+        failure,
+        failure_age_ms: failed.map(|at| now.saturating_sub(at)),
+        token,
+    })
 }
 
 /// What is told of the state file, where there is one.

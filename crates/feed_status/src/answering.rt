@@ -7,6 +7,7 @@ use crate::page::put_page;
 use crate::plots::PlotsJson;
 use crate::rows::rows_of;
 use crate::screens::{MOST_SCREENS, report};
+use crate::servers::report_servers;
 use crate::status::Status;
 use crate::watch::Watch;
 use http::StatusCode;
@@ -84,14 +85,17 @@ fn read_request(head: &[u8]) -> Result<Asked, StatusCode> {
     }
 }
 
-/// The status as JSON, with its level, its headline and the rows of the page's table.
-fn json(alloc: Global, status: &Status<'_>) -> Result<Vec<u8>, AllocError> {
+/// The status as JSON, with its level, its headline, the rows of the page's table, and the servers.
+fn json<W: Watch>(alloc: Global, relay: &W, status: &Status<'_>) -> Result<Vec<u8>, AllocError> {
     let headline = format!(in alloc; "{}", Headline(status))?;
     let rows = rows_of(alloc, status)?;
+    let watched = relay.servers(alloc)?;
+    let servers = report_servers(alloc, watched.as_slice())?;
     let told = StatusJson {
         level: status.level(),
         headline: headline.as_str(),
         rows: rows.as_slice(),
+        servers: servers.as_slice(),
         status,
     };
     serde_json::to_vec(alloc, &told).map_err(|_| AllocError)
@@ -110,17 +114,26 @@ fn plots<W: Watch>(alloc: Global, relay: &W) -> Result<Vec<u8>, AllocError> {
     serde_json::to_vec(alloc, &told).map_err(|_| AllocError)
 }
 
-/// The page, with the table of the screens.
+/// The page, with the tables of the servers and of the screens.
 fn page<W: Watch>(alloc: Global, relay: &W, status: &Status<'_>) -> Result<Vec<u8>, AllocError> {
     let screens = relay.screens(alloc, MOST_SCREENS)?;
     let mut out = Vec::new(alloc);
-    put_page(alloc, status, screens.as_slice(), &mut out)?;
+    let servers = relay.servers(alloc)?;
+    put_page(
+        alloc,
+        status,
+        servers.as_slice(),
+        screens.as_slice(),
+        &mut out,
+    )?;
     Ok(out)
 }
 
-/// The metrics, with those of the process.
+/// The metrics, with those of the servers and of the process.
 fn metrics<W: Watch>(alloc: Global, relay: &W, status: &Status<'_>) -> Result<Vec<u8>, AllocError> {
-    let text = format!(in alloc; "{}", Metrics(status, relay.process()))?;
+    let servers = relay.servers(alloc)?;
+    let metrics = Metrics(status, servers.as_slice(), relay.process());
+    let text = format!(in alloc; "{metrics}")?;
     Ok(text.into_bytes())
 }
 
@@ -139,7 +152,7 @@ fn body<W: Watch>(
 ) -> Result<Vec<u8>, AllocError> {
     match wanted {
         Wanted::Page => page(alloc, relay, status),
-        Wanted::Json => json(alloc, status),
+        Wanted::Json => json(alloc, relay, status),
         Wanted::Screens => screens(alloc, relay, status),
         Wanted::Plots => plots(alloc, relay),
         Wanted::Metrics => metrics(alloc, relay, status),

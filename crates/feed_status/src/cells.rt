@@ -47,6 +47,8 @@ pub(crate) enum Cell<'a> {
     Ago(Option<u64>),
     /// How things stand with the server, and for how long.
     State(UpstreamState, u64),
+    /// The same of any server: of one that isn't asked, for how long it hasn't been followed.
+    Server(Option<UpstreamState>, Option<u64>),
     /// What came and has not settled.
     Coming(&'a UpstreamStatus<'a>),
     /// What came and waits for a token.
@@ -60,6 +62,8 @@ pub(crate) enum Cell<'a> {
     StateFile(Option<FileStatus<'a>>),
     /// The status that a screen was answered with; none while its request comes.
     Answer(Option<u16>),
+    /// The status of a server's last answer; none where it has given none.
+    Known(Option<u16>),
     /// The token of what a screen was sent, if that is all, and how many bytes it lacks.
     Place(Option<&'a str>, u64),
 }
@@ -72,6 +76,7 @@ impl fmt::Display for Cell<'_> {
             Cell::Time(time) => put(&Time(time), f),
             Cell::Ago(age) => put_ago(age, f),
             Cell::State(state, time) => put_state(state, time, f),
+            Cell::Server(state, time) => put_server(state, time, f),
             Cell::Coming(upstream) => put_coming(upstream, f),
             Cell::Waiting(upstream) => put_waiting(upstream, f),
             Cell::LastFailure(failure) => put_last_failure(failure, f),
@@ -79,6 +84,7 @@ impl fmt::Display for Cell<'_> {
             Cell::Refusals(screens) => put_refusals(screens, f),
             Cell::StateFile(file) => put_state_file(file, f),
             Cell::Answer(status) => put_answer(status, f),
+            Cell::Known(status) => put_known(status, f),
             Cell::Place(token, behind) => put_place(token, behind, f),
         }
     }
@@ -101,6 +107,26 @@ fn put_state<W: fmt::Write>(
     f: &mut fmt::Formatter<W>,
 ) -> fmt::Result {
     write!(f, "{}, for {}", word(state), Time(time))
+}
+
+fn put_server<W: fmt::Write>(
+    state: Option<UpstreamState>,
+    time: Option<u64>,
+    f: &mut fmt::Formatter<W>,
+) -> fmt::Result {
+    match (state, time) {
+        (Some(state), Some(time)) => put_state(state, time, f),
+        (Some(state), None) => f.write_str(word(state)),
+        (None, Some(time)) => write!(f, "not followed, for {}", Time(time)),
+        (None, None) => f.write_str("never followed"),
+    }
+}
+
+fn put_known<W: fmt::Write>(status: Option<u16>, f: &mut fmt::Formatter<W>) -> fmt::Result {
+    match status {
+        Some(status) => write!(f, "{status}"),
+        None => f.write_str("none"),
+    }
 }
 
 fn put_coming<W: fmt::Write>(

@@ -16,7 +16,8 @@ pub enum Level {
     /// It shows nothing, or nothing new at the moment, and heard upstream not long ago; or
     /// something else is wrong that somebody should look at.
     Doubtful,
-    /// Nothing was heard of upstream for longer than it may be silent.
+    /// Nothing was heard of upstream for longer than it may be silent; or nothing is shown, and all
+    /// that it sends breaks at one place.
     Bad,
 }
 
@@ -53,7 +54,13 @@ impl Status<'_> {
         let fails_to_save = self.state_file.is_some_and(|file| file.fault.is_some());
         let lacks_first = self.upstream.in_place_of.is_some();
         let lacks = lacks_first || self.upstream.lacks_tokens;
-        fails_to_save || lacks || !self.answering || self.screens.full
+        let misleads = self.upstream.gives_twice || self.upstream.held || self.is_stuck();
+        fails_to_save || lacks || misleads || !self.answering || self.screens.full
+    }
+
+    /// Whether all that upstream sends breaks at one place.
+    fn is_stuck(&self) -> bool {
+        self.upstream.stuck.is_some()
     }
 
     /// Whether a server is asked again whose feed ended a moment ago, and that did not fail.
@@ -69,7 +76,8 @@ impl Status<'_> {
             UpstreamState::Asking | UpstreamState::Pausing => self.is_asked_again(),
             _ => false,
         };
-        if !self.is_heard() {
+        let lacks_all = self.token.is_none() && self.is_stuck();
+        if !self.is_heard() || lacks_all {
             Level::Bad
         } else if follows && self.token.is_some() && !self.has_trouble() {
             Level::Good

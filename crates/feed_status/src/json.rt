@@ -5,6 +5,7 @@ use crate::health::Level;
 use crate::plots::{Latest, PlotsJson, Point};
 use crate::rows::Row;
 use crate::screens::{ScreenJson, ScreensJson};
+use crate::servers::ServerJson;
 use crate::status::{
     FailureCount, FileStatus, InPlaceOf, LastFailure, Latency, Refused, ScreensStatus, Status,
     UpstreamState, UpstreamStatus,
@@ -42,13 +43,14 @@ fn put_pair<A: Serialize, B: Serialize, S: Serializer>(
     put_end(put, out)
 }
 
-/// What `/status.json` has: the status, with its level, its headline and the rows of the page's
-/// table.
+/// What `/status.json` has: the status, with its level, its headline, the rows of the page's table,
+/// and the servers.
 #[derive(Clone, Copy)]
 pub(crate) struct StatusJson<'a> {
     pub(crate) level: Level,
     pub(crate) headline: &'a str,
     pub(crate) rows: &'a [Row],
+    pub(crate) servers: &'a [ServerJson<'a>],
     pub(crate) status: &'a Status<'a>,
 }
 
@@ -60,6 +62,7 @@ impl Serialize for StatusJson<'_> {
         let put = put_member(put, "level", &self.level, out);
         let put = put_member(put, "headline", &self.headline, out);
         let put = put_member(put, "rows", &self.rows, out);
+        let put = put_member(put, "servers", &self.servers, out);
         let put = put_member(put, "status", &self.status, out);
         put_end(put, out)
     }
@@ -107,6 +110,9 @@ impl Serialize for UpstreamStatus<'_> {
         let put = put_member(put, "failed_by", &self.failed_by, out);
         let put = put_member(put, "coming_lines", &self.coming_lines, out);
         let put = put_member(put, "coming_bytes", &self.coming_bytes, out);
+        let put = put_member(put, "held", &self.held, out);
+        let put = put_member(put, "stuck", &self.stuck, out);
+        let put = put_member(put, "gives_twice", &self.gives_twice, out);
         let put = put_member(put, "waiting", &self.waiting, out);
         let put = put_member(put, "waiting_ms", &self.waiting_ms, out);
         let put = put_member(put, "lacks_tokens", &self.lacks_tokens, out);
@@ -172,6 +178,25 @@ impl Serialize for ScreenJson<'_> {
         let put = put_member(put, "token", &self.token, out);
         let put = put_member(put, "behind_bytes", &self.behind_bytes, out);
         let put = put_member(put, "bytes", &self.bytes, out);
+        let put = put_member(put, "cells", &self.cells, out);
+        put_end(put, out)
+    }
+}
+
+impl Described for ServerJson<'_> {}
+
+impl Serialize for ServerJson<'_> {
+    fn serialize<S: Serializer>(&self, out: &mut S) -> Result<(), S::Error> {
+        let server = self.server;
+        let put = out.begin_map(None);
+        let put = put_member(put, "name", &server.name, out);
+        let put = put_member(put, "state", &self.state, out);
+        let put = put_member(put, "for_ms", &server.for_ms, out);
+        let put = put_member(put, "asked", &server.asked, out);
+        let put = put_member(put, "last_status", &server.status, out);
+        let put = put_member(put, "failures", &server.failures, out);
+        let put = put_member(put, "last_failure", &self.last_failure, out);
+        let put = put_member(put, "token", &server.token, out);
         let put = put_member(put, "cells", &self.cells, out);
         put_end(put, out)
     }

@@ -5,6 +5,7 @@
 mod answering;
 mod cells;
 mod escape;
+mod families;
 mod health;
 mod json;
 mod metrics;
@@ -12,6 +13,7 @@ mod page;
 mod plots;
 mod rows;
 mod screens;
+mod servers;
 mod status;
 mod warnings;
 mod watch;
@@ -21,6 +23,7 @@ pub use escape::put_text;
 pub use health::Level;
 pub use plots::{Latest, Plots, Point};
 pub use screens::WatchedScreen;
+pub use servers::WatchedServer;
 pub use status::{
     BOUNDS, FailureCount, FileStatus, InPlaceOf, LastFailure, Latency, Refused, ScreensStatus,
     Status, UpstreamState, UpstreamStatus,

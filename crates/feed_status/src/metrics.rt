@@ -2,65 +2,14 @@
 //! labels stand in tables, each with its numbers in the same order. The others are written as they
 //! stand.
 
+use crate::families::{Escaped, Family, Unit, Value, put_all, put_metric};
+use crate::servers::{WatchedServer, put_statuses};
 use crate::status::{
     BOUNDS, FailureCount, FileStatus, Latency, Refused, ScreensStatus, Status, UpstreamState,
     UpstreamStatus,
 };
 use crate::watch::Process;
 use std::fmt;
-use std::fmt::Write;
-
-/// What a number counts.
-#[derive(Clone, Copy)]
-enum Unit {
-    Things,
-    /// It is printed as seconds.
-    Milliseconds,
-    /// It is printed as seconds.
-    Microseconds,
-}
-
-/// The value of a metric.
-#[derive(Clone, Copy)]
-struct Value(u64, Unit);
-
-impl fmt::Display for Value {
-    fn fmt<W: fmt::Write>(&self, f: &mut fmt::Formatter<W>) -> fmt::Result {
-        let Value(number, unit) = *self;
-        match unit {
-            Unit::Things => write!(f, "{number}"),
-            Unit::Milliseconds => write!(f, "{}.{:03}", number / 1_000, number % 1_000),
-            Unit::Microseconds => write!(f, "{}.{:06}", number / 1_000_000, number % 1_000_000),
-        }
-    }
-}
-
-/// The text of a label: a backslash, a quotation mark and a line feed are escaped.
-#[derive(Clone, Copy)]
-struct Escaped<'a>(&'a str);
-
-impl fmt::Display for Escaped<'_> {
-    fn fmt<W: fmt::Write>(&self, f: &mut fmt::Formatter<W>) -> fmt::Result {
-        for character in self.0.chars() {
-            match character {
-                '\\' => f.write_str("\\\\"),
-                '"' => f.write_str("\\\""),
-                '\n' => f.write_str("\\n"),
-                other => f.write_char(other),
-            }?;
-        }
-        Ok(())
-    }
-}
-
-/// A metric with one value: what stands before it, and what its number counts.
-#[derive(Clone, Copy)]
-struct Family {
-    name: &'static str,
-    kind: &'static str,
-    unit: Unit,
-    help: &'static str,
-}
 
 /// How long the relay has run, and what came.
 static RELAY: [Family; 3] = [
@@ -373,32 +322,6 @@ fn of_process(process: &Process) -> [u64; 4] {
     ]
 }
 
-/// Appends a metric with one value.
-fn put_metric<W: fmt::Write>(
-    family: &Family,
-    number: u64,
-    f: &mut fmt::Formatter<W>,
-) -> fmt::Result {
-    let (name, kind, help) = (family.name, family.kind, family.help);
-    let value = Value(number, family.unit);
-    write!(
-        f,
-        "# HELP {name} {help}\n# TYPE {name} {kind}\n{name} {value}\n"
-    )
-}
-
-/// Appends metrics with one value each, one after another.
-fn put_all<W: fmt::Write>(
-    families: &[Family],
-    numbers: &[u64],
-    f: &mut fmt::Formatter<W>,
-) -> fmt::Result {
-    for (family, number) in families.iter().zip(numbers.iter()) {
-        put_metric(family, *number, f)?;
-    }
-    Ok(())
-}
-
 /// Appends the program and its contest.
 fn put_info<W: fmt::Write>(status: &Status<'_>, f: &mut fmt::Formatter<W>) -> fmt::Result {
     let (version, contest) = (Escaped(status.version), Escaped(status.contest));
@@ -533,20 +456,25 @@ fn put_latency<W: fmt::Write>(latency: &Latency, f: &mut fmt::Formatter<W>) -> f
     )
 }
 
-/// All metrics of a relay, and of its process where something is known of that.
+/// All metrics of a relay, of its servers, and of its process where something is known of that.
 #[derive(Clone, Copy)]
-pub(crate) struct Metrics<'a>(pub(crate) &'a Status<'a>, pub(crate) Option<Process>);
+pub(crate) struct Metrics<'a, 's>(
+    pub(crate) &'a Status<'a>,
+    pub(crate) &'s [WatchedServer],
+    pub(crate) Option<Process>,
+);
 
-impl fmt::Display for Metrics<'_> {
+impl fmt::Display for Metrics<'_, '_> {
     fn fmt<W: fmt::Write>(&self, f: &mut fmt::Formatter<W>) -> fmt::Result {
         let status = self.0;
         put_info(status, f)?;
         put_all(&RELAY, &of_relay(status), f)?;
         put_commit(status.commit_age_ms, f)?;
         put_upstream(status, f)?;
+        put_statuses(self.1, f)?;
         put_screens(status, f)?;
         put_file(&status.state_file, f)?;
-        put_process(&self.1, f)?;
+        put_process(&self.2, f)?;
         put_latency(&status.latency, f)
     }
 }

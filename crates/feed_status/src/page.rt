@@ -4,6 +4,7 @@ use crate::escape::put_element;
 use crate::health::Headline;
 use crate::rows::{Row, rows_of};
 use crate::screens::{HEADERS, WatchedScreen, put_screens};
+use crate::servers::{SERVER_HEADERS, WatchedServer, put_servers};
 use crate::status::Status;
 use std::alloc::{AllocError, Global};
 
@@ -34,7 +35,7 @@ th { font-weight: normal; text-align: left; opacity: 0.75; }
 th, td { padding: 0.1rem 1.2rem 0.1rem 0; vertical-align: top; overflow-wrap: anywhere; }
 td { font-variant-numeric: tabular-nums; }
 #rows th { white-space: nowrap; }
-#wide { overflow-x: auto; }
+.wide { overflow-x: auto; margin: 0 0 1rem; }
 #screens td:last-child, #screens th:last-child { text-align: right; padding-right: 0; }
 figure { margin: 0 0 1rem; }
 svg { width: 100%; height: 7rem; background: #8881; display: block; }
@@ -43,7 +44,7 @@ polyline { fill: none; stroke: #2a78d6; stroke-width: 2; vector-effect: non-scal
 @media (max-width: 30rem) {
   #rows th { white-space: normal; }
   th, td { padding-right: 0.6rem; }
-  #screens { font-size: 0.9rem; }
+  #screens, #servers { font-size: 0.9rem; }
 }
 </style>
 </head>
@@ -53,11 +54,18 @@ polyline { fill: none; stroke: #2a78d6; stroke-width: 2; vector-effect: non-scal
 /// The page from the end of its headline up to its table.
 const ROWS: &str = "</h1>\n<main>\n<section><table id=\"rows\"><tbody>\n";
 
-/// The page between its table and that of the screens.
-const PLOTS: &str = r##"</tbody></table></section>
+/// The page between its table and that of the servers.
+const SERVERS: &str = r##"</tbody></table></section>
 <div id="side">
+<section class="wide">
+<h2>Servers</h2>
+<table id="servers"><thead><tr>"##;
+
+/// The page between the table of the servers and that of the screens.
+const PLOTS: &str = r##"</tbody></table>
+</section>
 <section id="plots"></section>
-<section id="wide">
+<section class="wide">
 <h2>Screens, the slowest first (at most 200)</h2>
 <table id="screens"><thead><tr>"##;
 
@@ -130,18 +138,18 @@ async function follow(latest) {
   draw();
 }
 
-async function list() {
-  const all = await told("screens.json");
-  const rows = all.screens.map((screen) => {
+// The rows of a table.
+function list(table, all) {
+  const rows = all.map((one) => {
     const row = document.createElement("tr");
-    for (const text of screen.cells) {
+    for (const text of one.cells) {
       const cell = document.createElement("td");
       cell.textContent = text;
       row.append(cell);
     }
     return row;
   });
-  document.querySelector("#screens tbody").replaceChildren(...rows);
+  document.querySelector(`${table} tbody`).replaceChildren(...rows);
 }
 
 function lose() {
@@ -159,7 +167,8 @@ async function look() {
     const cells = document.querySelectorAll("#rows td");
     now.rows.forEach((row, at) => { cells[at].textContent = row.text; });
     await follow(now.status.plot);
-    await list();
+    list("#servers", now.servers);
+    list("#screens", (await told("screens.json")).screens);
   } catch (error) {
     lose();
   }
@@ -182,9 +191,9 @@ fn put_row(row: &Row, out: &mut Vec<u8>) -> Result<(), AllocError> {
     put_element("<td>", row.text.as_str(), "</td></tr>\n", out)
 }
 
-/// What stands above the screens.
-fn put_headers(out: &mut Vec<u8>) -> Result<(), AllocError> {
-    for header in &HEADERS {
+/// What stands above a table.
+fn put_headers(headers: &[&str], out: &mut Vec<u8>) -> Result<(), AllocError> {
+    for header in headers {
         put_element("<th>", header, "</th>", out)?;
     }
     put("</tr></thead><tbody>\n", out)
@@ -206,19 +215,23 @@ fn put_rows(alloc: Global, status: &Status<'_>, out: &mut Vec<u8>) -> Result<(),
     Ok(())
 }
 
-/// Appends the page: a headline, a table, plots of the last ten minutes, and the screens. Its
-/// script renews all of it each second. Without scripts it is loaded again each five seconds, and
-/// has no plots.
+/// Appends the page: a headline, a table, the servers, plots of the last ten minutes, and the
+/// screens. Its script renews all of it each second. Without scripts it is loaded again each five
+/// seconds, and has no plots.
 pub(crate) fn put_page(
     alloc: Global,
     status: &Status<'_>,
+    servers: &[WatchedServer],
     screens: &[WatchedScreen],
     out: &mut Vec<u8>,
 ) -> Result<(), AllocError> {
     put_head(alloc, status, out)?;
     put_rows(alloc, status, out)?;
+    put(SERVERS, out)?;
+    put_headers(&SERVER_HEADERS, out)?;
+    put_servers(alloc, servers, out)?;
     put(PLOTS, out)?;
-    put_headers(out)?;
+    put_headers(&HEADERS, out)?;
     put_screens(alloc, screens, status.token, out)?;
     put(END, out)
 }

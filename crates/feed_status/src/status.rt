@@ -98,6 +98,13 @@ pub struct UpstreamStatus<'a> {
     pub coming_lines: u64,
     /// How many bytes came on its connection that are not shown yet; 0 unless it settles.
     pub coming_bytes: u64,
+    /// Whether that is held back, since it is smaller than what is shown.
+    pub held: bool,
+    /// Where all that it sends breaks each time, if it does: what is shown stays until somebody
+    /// mends that.
+    pub stuck: Option<&'a str>,
+    /// Whether it gave one token to two states on its connection.
+    pub gives_twice: bool,
     /// How many changes came since the last token on its connection.
     pub waiting: u64,
     /// For how long the first of them has waited for a token.

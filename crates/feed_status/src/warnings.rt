@@ -60,6 +60,22 @@ impl Warnings<'_> {
         }
     }
 
+    fn on_hold(&self) -> &'static str {
+        if self.0.upstream.held {
+            "; what came is smaller than what is shown, and is held back"
+        } else {
+            ""
+        }
+    }
+
+    fn on_tokens(&self) -> &'static str {
+        if self.0.upstream.gives_twice {
+            "; one token came with two states: screens lack what came with it again"
+        } else {
+            ""
+        }
+    }
+
     fn on_room(&self) -> &'static str {
         if self.0.screens.full {
             "; no room for one screen more"
@@ -69,11 +85,26 @@ impl Warnings<'_> {
     }
 }
 
+/// Where all that upstream sends breaks each time, if it does.
+#[derive(Clone, Copy)]
+struct Stuck<'a>(Option<&'a str>);
+
+impl fmt::Display for Stuck<'_> {
+    fn fmt<W: fmt::Write>(&self, f: &mut fmt::Formatter<W>) -> fmt::Result {
+        match self.0 {
+            Some(text) => write!(f, "; {text}"),
+            None => Ok(()),
+        }
+    }
+}
+
 impl fmt::Display for Warnings<'_> {
     fn fmt<W: fmt::Write>(&self, f: &mut fmt::Formatter<W>) -> fmt::Result {
         let token = NoToken(&self.0.upstream);
         let saved = NotSaved(self.0.state_file.and_then(|file| file.fault));
+        let stuck = Stuck(self.0.upstream.stuck);
+        let (hold, tokens) = (self.on_hold(), self.on_tokens());
         let (requests, room) = (self.on_requests(), self.on_room());
-        write!(f, "{token}{saved}{requests}{room}")
+        write!(f, "{stuck}{hold}{tokens}{token}{saved}{requests}{room}")
     }
 }

@@ -2,6 +2,7 @@
 
 use crate::plots::Plots;
 use crate::screens::WatchedScreen;
+use crate::servers::WatchedServer;
 use crate::status::Status;
 use std::alloc::{AllocError, Global};
 
@@ -22,6 +23,9 @@ pub struct Process {
 pub trait Watch {
     /// How it is at this moment.
     fn status(&self) -> Status<'_>;
+
+    /// Its servers, in the order of their numbers.
+    fn servers(&self, alloc: Global) -> Result<Vec<WatchedServer>, AllocError>;
 
     /// At most so many of its screens, the slowest first.
     fn screens(&self, alloc: Global, most: usize) -> Result<Vec<WatchedScreen>, AllocError>;

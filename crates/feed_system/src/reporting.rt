@@ -2,7 +2,7 @@
 
 use crate::link::Servers;
 use feed_arguments::Verbosity;
-use feed_device::{Excerpt, Lack, Report, Why};
+use feed_device::{CameSo, Excerpt, Lack, Report, Why};
 use feed_follow::FollowFault;
 use jiff::Timestamp;
 use std::alloc::{AllocError, Global};
@@ -70,6 +70,8 @@ fn server_of(report: &Report) -> Option<usize> {
         | Report::Differs { server, .. }
         | Report::Forgot { server, .. }
         | Report::Settled { server, .. }
+        | Report::Held { server, .. }
+        | Report::Broken { server, .. }
         | Report::Coming { server, .. }
         | Report::NoToken { server, .. }
         | Report::Unsettled { server, .. } => Some(server),
@@ -141,10 +143,31 @@ fn text_of_server(alloc: Global, report: &Report, name: &str) -> Result<String, 
             let line = line.text();
             format!(in alloc; "upstream {name}: can't follow from this line on: {line}")
         }
-        Report::Settled { time, .. } => {
-            format!(in alloc; "upstream {name}: all of it came, in {time} ms")
-        }
+        Report::Settled { time, way, .. } => text_of_settled(alloc, name, time, way),
         _ => text_of_token(alloc, report, name),
+    }
+}
+
+/// The text of a report that what came is shown, so long after the first attempt.
+fn text_of_settled(
+    alloc: Global,
+    name: &str,
+    time: u64,
+    way: CameSo,
+) -> Result<String, AllocError> {
+    let why = match way {
+        CameSo::Quiet => "it has settled",
+        CameSo::Small => "it has settled for long, and is smaller than what was shown",
+        CameSo::Ended => "it ended in order",
+        CameSo::GoesOn => "it goes on from what was shown",
+        CameSo::Late => "it never was quiet",
+        CameSo::Broken => "it broke there twice (--serve-broken)",
+    };
+    match way {
+        CameSo::Late | CameSo::Broken => {
+            format!(in alloc; "upstream {name}: shown as far as it came, after {time} ms: {why}")
+        }
+        _ => format!(in alloc; "upstream {name}: all of it came, in {time} ms: {why}"),
     }
 }
 
@@ -237,8 +260,33 @@ fn text_of_coming(alloc: Global, report: &Report, name: &str) -> Result<String, 
                 "upstream {name}: {bytes} bytes came, and had not settled: none is shown (see --settle)"
             )
         }
+        Report::Held { time, .. } => format!(in alloc;
+            "upstream {name}: it was quiet, and is smaller than what is shown: held back until it \
+             was quiet for {time} ms"
+        ),
+        Report::Broken { token, line, .. } => text_of_broken(alloc, name, &token, &line),
         _ => text_of_rest(alloc, report),
     }
+}
+
+/// The text of a report that what comes breaks behind a token each time, at this line if it isn't
+/// empty.
+fn text_of_broken(
+    alloc: Global,
+    name: &str,
+    token: &Excerpt,
+    line: &Excerpt,
+) -> Result<String, AllocError> {
+    let (token, line) = (token.text(), line.text());
+    if line.is_empty() {
+        return format!(in alloc;
+            "upstream {name}: all that it sends ended behind the token {token} again: none is shown"
+        );
+    }
+    format!(in alloc;
+        "upstream {name}: all that it sends can't be followed behind the token {token} again: none \
+         is shown; mend this line: {line}"
+    )
 }
 
 /// The text of a report of no server.

@@ -15,6 +15,10 @@ use std::alloc::AllocError;
 use std::io;
 use watching::View;
 
+/// What is reported at the start with --no-recheck.
+const NO_RECHECK: &str = "--no-recheck: a server that was set back, or that leaves commits out, is \
+                          not noticed: for such a server give --fresh";
+
 /// What a relay runs on, beside the devices of its turns.
 #[derive(Drop)]
 struct Engine<'r> {
@@ -117,6 +121,16 @@ impl<'r> Engine<'r> {
         }
     }
 
+    /// The names of the servers, in the order of their numbers.
+    fn servers(&self, live: &Live, servers: &Servers<'r>) -> Result<Vec<String>, AllocError> {
+        let alloc = self.rt.alloc();
+        let mut names = Vec::new(alloc);
+        for number in 0..live.server_figures().len() {
+            names.push(servers.name(alloc, number)?)?;
+        }
+        Ok(names)
+    }
+
     /// Why the last attempt to follow a server failed; nothing where none did.
     fn failure(&self, live: &Live) -> Result<String, AllocError> {
         let alloc = self.rt.alloc();
@@ -124,6 +138,21 @@ impl<'r> Engine<'r> {
             Some((failure, _)) => format!(in alloc; "{failure}"),
             None => Ok(String::new(alloc)),
         }
+    }
+
+    /// Where all that a server sends breaks each time; nothing if it doesn't.
+    fn stuck(&self, live: &Live) -> Result<String, AllocError> {
+        let alloc = self.rt.alloc();
+        let Some((token, line)) = live.feed_figures().stuck else {
+            return Ok(String::new(alloc));
+        };
+        let (token, line) = (token.text(), line.text());
+        if line.is_empty() {
+            return format!(in alloc; "all that it sends ends behind the token {token} each time");
+        }
+        format!(in alloc;
+            "all that it sends can't be followed behind the token {token}, at this line: {line}"
+        )
     }
 
     /// Why the first server is not followed; nothing where another one is in its place.
@@ -143,7 +172,9 @@ impl<'r> Engine<'r> {
     ) -> Result<Words, AllocError> {
         Ok(Words {
             name: self.followed(live, &devices.link)?,
+            servers: self.servers(live, &devices.link)?,
             failure: self.failure(live)?,
+            stuck: self.stuck(live)?,
             first: devices.link.name(self.rt.alloc(), 0)?,
             lack: self.lack(live)?,
             fault: self.system.file_fault(&devices.store)?,
@@ -180,6 +211,13 @@ impl<'r> Engine<'r> {
         }
     }
 
+    /// Warns of an option that lets false states pass.
+    fn warn_of_options(&mut self) {
+        if self.options.no_recheck {
+            self.line(NO_RECHECK);
+        }
+    }
+
     /// Says so where not all screens can be let in.
     fn report_room(&mut self) -> Result<(), AllocError> {
         if let Some(text) = lack_of_files(self.rt.alloc(), self.options)? {
@@ -208,6 +246,7 @@ impl<'r> Host<Port, Servers<'r>, StateStore<&'r HostRuntime>> for Engine<'r> {
         }
         self.report_port()?;
         self.report_room()?;
+        self.warn_of_options();
         Ok(())
     }
 

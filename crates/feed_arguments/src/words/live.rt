@@ -38,7 +38,7 @@ pub(super) const MOST_RETURN: u64 = 3_600;
 pub(super) const MOST_HOLD: u64 = 3_600;
 
 /// The options that say what is followed.
-static UPSTREAM: [Declared; 12] = [
+static UPSTREAM: [Declared; 13] = [
     // What, and as whom.
     CONTEST,
     Declared {
@@ -85,6 +85,12 @@ static UPSTREAM: [Declared; 12] = [
         name: "fresh",
         help: "Ask for everything on each connection, never with since_token: for servers that don't have \
               the same tokens",
+        ..PLAIN
+    },
+    Declared {
+        name: "serve-broken",
+        help: "Where nothing is shown yet, and what a server sends breaks at one place twice, serve what \
+              came up to there: it may be a state that the server never had",
         ..PLAIN
     },
     Declared {

@@ -9,7 +9,8 @@ use crate::source::settling::{begin_shown, followed_of};
 use crate::source::{Reach, Source};
 use crate::times::{CONNECT_TIME, STOOD_LONG};
 use feed_answer::request_text_as;
-use feed_device::{Desk, Lack, Link, Report, Why};
+use feed_device::{Desk, Excerpt, Lack, Link, Report, Why};
+use feed_figures::FollowFailure;
 use feed_hub::FIRST_PAUSE;
 use feed_node::Mirror;
 use feed_screens::Screens;
@@ -20,7 +21,7 @@ impl Source {
     ghost use Rattle.feed_live.specs.Times.{HeedsTime, KeepsTimes, SameTimes};
     ghost use Rattle.feed_live.specs.Relaying.{StillFollows, SameSource, SameWaiting, WasLeft, GoesOnTo, IsToConnect, RestsAway, servers_of, within_turn};
     ghost use Rattle.feed_live.specs.Upstream.{IsRequestOf, IsRequestWith, asked_with};
-    ghost use Rattle.feed_live.specs.Leaving.{AsksAgain, LooksAtFirst, after_loss, after_quiet, connect_time, has_answered, has_left_quiet, heard_time, is_end, is_past, late_time, look_at, newest_time, quiet_at, response_time, stood_long, why_late, why_left, LeavesLate, IsToLeave, IsToMove, IsToStay, IsAtRest, ConnectsTo};
+    ghost use Rattle.feed_live.specs.Leaving.{AsksAgain, LooksAtFirst, after_loss, after_quiet, connect_time, has_answered, has_left_quiet, heard_time, is_end, is_passed_over, is_past, late_time, look_at, newest_time, quiet_at, response_time, stood_long, why_late, why_left, LeavesLate, IsToLeave, IsToMove, IsToStay, IsAtRest, ConnectsTo};
     ghost use Rattle.feed_live.specs.declared.source.Reach.TheVariants.{Away, Connects as Connecting, Reads as Read};
     ghost use Rattle.feed_screens.specs.declared.screens.Screens.{Screens};
 
@@ -233,6 +234,9 @@ impl Source {
         ensures rests { self.old.reach ≡ Away → self.old.has_more ≡ false → IsAtRest self.new }
         ensures waits { self.old.reach ≡ Away
             → self.old.upstream.place < length self.old.places.items → IsAtRest self.new }
+        // none while the first server stands alone, and this is another one
+        ensures alone { is_passed_over self.old desk.old.time ≡ true
+            → L.calls link.new ≡ L.calls link.old }
         // it is one to the server whose turn it is
         ensures server { ConnectsTo self.old.upstream.place (L.exchanges link.old)
             (L.exchanges link.new) }
@@ -244,7 +248,7 @@ impl Source {
         ensures refused { self.new.upstream.refused ≡ self.old.upstream.refused }
         ensures heard { self.old.body_since ≡ None → self.new.is_heard ≡ self.old.is_heard }
     {
-        if self.is_passed_over() {
+        if self.is_passed_over(desk.time) {
             self.pass_over(link, desk.time);
             return;
         }
@@ -296,7 +300,10 @@ impl Source {
         self.coming = coming;
         self.rechecking.begin(again, self.is_fresh);
         self.settling.begin(desk.time);
-        self.figures.ask(self.upstream.place(), desk.time);
+        let is_afresh = self.coming.is_some();
+        self.figures
+            .ask(self.upstream.place(), is_afresh, desk.time);
+        self.servers.ask(self.upstream.place());
         self.opened = desk.time;
         self.beginning.begin(follows);
         self.has_more = false;
@@ -351,7 +358,7 @@ impl Source {
     {
         let server = self.upstream.place();
         let back = self.leading.end_look();
-        self.patience.lose(why, back.is_some());
+        self.patience.lose(server, why, back.is_some());
         let is_reported = self.lose() && back.is_none();
         self.rechecking.lose();
         self.hear_end(why);
@@ -360,6 +367,8 @@ impl Source {
         self.leave(link, desk.time);
         self.leading.fail(server, Lack::Left(why), desk.time);
         self.figures.lose(why, desk.time);
+        self.servers
+            .fail(server, FollowFailure::Left(why), desk.time);
         self.ask_next(back, desk.time);
         let pause = self.upstream.due(0).saturating_sub(desk.time);
         forget_after(link, pause);
@@ -390,14 +399,16 @@ impl Source {
         }
     }
 
-    /// Whether the feed of the server stood open for long, and nothing of it is yet to settle.
+    /// Whether the feed of the server stood open for long, and nothing of it is yet to settle, but
+    /// for one that is at what is shown.
     fn stood_long(&self, now: u64) -> bool
         ensures { result ≡ stood_long self.now now }
     {
         let Some(since) = self.body_since else {
             return false;
         };
-        since.saturating_add(STOOD_LONG) <= now && self.coming.is_none()
+        let is_over = self.coming.is_none() || self.is_at_shown();
+        since.saturating_add(STOOD_LONG) <= now && is_over
     }
 
     /// The server is left that did not fail, and is asked again at once.
@@ -416,6 +427,8 @@ impl Source {
         self.leave(link, desk.time);
         let is_reported = self.patience.ask_again(desk.time);
         self.figures.end(why, desk.time);
+        self.servers
+            .fail(server, FollowFailure::Left(why), desk.time);
         self.upstream.ended(self.answers.shown.change(), desk.time);
         let lost = Report::Lost {
             server,
@@ -475,6 +488,9 @@ impl Source {
         link.close();
         if self.body_since.is_some() {
             self.away_since = now;
+            let token = self.answers.shown.node().token();
+            let token = token.map(|token| Excerpt::of(token.text()));
+            self.servers.leave(self.upstream.place(), token, now);
         }
         self.reach = Reach::Away;
         // What had not settled is dropped.

@@ -6,11 +6,13 @@
 //! While another server is followed in its place, that is told, with the reason, and the first one
 //! is looked at now and then.
 
-ghost use Rattle.std.specs.Prelude.{◌≡◌, ◌&&◌, ◌*◌, if◌then◌else◌, true, false, None, Some, is_some, min};
-ghost use Rattle.feed_live.specs.Leading.{SameLead, is_first, is_back, is_instead, is_other_log, look_time, looks_next, refused_since, was_behind};
+ghost use Rattle.std.specs.Prelude.{◌≡◌, ◌&&◌, ◌||◌, ◌*◌, not, if◌then◌else◌, true, false, None, Some, is_some, min};
+ghost use Rattle.feed_live.specs.Leading.{SameLead, asks_all, has_lacked, is_first, is_back, is_instead, is_other_log, is_shut_out, look_time, looks_next, refused_since, was_behind};
 ghost use Rattle.feed_live.specs.declared.source.leading.Coming.TheVariants.{News};
 
-use crate::times::{ALL_APART, FIRST_LOOK, LOOK_APART, LOOK_TIME, REFUSED_APART, RESPONSE_TIME};
+use crate::times::{
+    ALL_APART, ALONE_TIME, FIRST_LOOK, LOOK_APART, LOOK_TIME, REFUSED_APART, RESPONSE_TIME,
+};
 use feed_answer::Place;
 use feed_device::{Desk, Lack, Report};
 
@@ -176,26 +178,64 @@ impl Leading {
         self.wants_all = true;
     }
 
-    /// Whether a connection to this place asks for everything, though our token is known.
+    /// Whether a connection to this place asks for everything, though our token is known: also one
+    /// to another server, while that may have the log that the first one's took the place of.
     pub(crate) fn wants_all(&self, place: usize) -> bool
-        ensures { result ≡ (self.now.wants_all && is_first self.now place) }
+        ensures { result ≡ asks_all self.now place }
     {
-        self.wants_all && self.is_first(place)
+        if self.is_first(place) {
+            self.wants_all
+        } else {
+            self.is_alone
+        }
     }
 
-    /// Its log was found to be behind ours.
-    pub(crate) fn find_behind(&mut self, now: u64)
-        ensures { self.new ≡ record self.old { wants_all = false; behind_at = Some now } }
+    /// The log of the server of a place was found to be behind ours. So another one has the log
+    /// that the first one's is, and not the one before.
+    pub(crate) fn find_behind(&mut self, place: usize, now: u64)
+        ensures first { is_first self.old place ≡ true
+            → self.new ≡ record self.old { wants_all = false; behind_at = Some now } }
+        ensures other { is_first self.old place ≡ false
+            → self.new ≡ record self.old { is_alone = false } }
     {
-        self.wants_all = false;
-        self.behind_at = Some(now);
+        if self.is_first(place) {
+            self.wants_all = false;
+            self.behind_at = Some(now);
+        } else {
+            self.is_alone = false;
+        }
     }
 
-    /// Its log takes the place of ours.
-    pub(crate) fn stand_alone(&mut self)
-        ensures { self.new ≡ record self.old { is_alone = true } }
+    /// What came of the server of a place, that was asked for everything, is shown. Where that is
+    /// the first one's other log, which doesn't go on from what was shown, it stands alone. What
+    /// another one has is asked for with its own tokens from now on.
+    pub(crate) fn take_all(&mut self, place: usize, goes_on: bool)
+        ensures { self.new ≡ record self.old {
+          is_alone = is_first self.old place
+              && (self.old.is_alone || self.old.wants_all && not goes_on);
+        } }
     {
-        self.is_alone = true;
+        let is_another = self.wants_all && !goes_on;
+        self.is_alone = self.is_first(place) && (self.is_alone || is_another);
+    }
+
+    /// Whether no connection is to be begun to the server of a place: the first one's log took the
+    /// place of ours, and another one may have the old one, with the same tokens. Not for longer
+    /// than the first one is waited for.
+    pub(crate) fn is_shut_out(&self, place: usize, now: u64) -> bool
+        ensures { result ≡ is_shut_out self.now place now }
+    {
+        self.is_alone && !self.is_first(place) && !self.has_lacked(now)
+    }
+
+    /// Whether it hasn't been followed for a minute.
+    fn has_lacked(&self, now: u64) -> bool
+        ensures { result ≡ has_lacked self.now.lack now }
+    {
+        match self.lack {
+            Some((_, since)) => since.saturating_add(ALONE_TIME) <= now,
+            None => false,
+        }
     }
 
     /// Whether its log took the place of ours, and it has published nothing more.

@@ -101,12 +101,11 @@ impl Source {
         }
     }
 
-    /// Whether no connection is to be begun to this server: the first one's log took the place of
-    /// ours, and another one may still have the old one, with the same tokens.
-    pub(crate) fn is_passed_over(&self) -> bool
-        ensures { result ≡ is_passed_over self.now }
+    /// Whether no connection is to be begun to the server whose turn it is.
+    pub(crate) fn is_passed_over(&self, now: u64) -> bool
+        ensures { result ≡ is_passed_over self.now now }
     {
-        self.leading.is_alone() && !self.leading.is_first(self.upstream.place())
+        self.leading.is_shut_out(self.upstream.place(), now)
     }
 
     /// The next one is asked, as if this one had failed.

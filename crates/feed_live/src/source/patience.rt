@@ -12,6 +12,8 @@ pub(crate) struct Patience {
     /// How long the next one may take, in milliseconds: twice as long each time that none
     /// answered.
     time: u64,
+    /// The place of the one that did not answer last.
+    slow: usize,
     /// The server is asked again, since its feed ended and it did not fail.
     is_again: bool,
     /// When it was reported last that one is.
@@ -20,10 +22,16 @@ pub(crate) struct Patience {
 
 impl Patience {
     pub(crate) fn new() -> Patience
-        ensures { result ≡ record { time = RESPONSE_TIME; is_again = false; said = None } }
+        ensures { result ≡ record {
+          time = RESPONSE_TIME;
+          slow = 0;
+          is_again = false;
+          said = None;
+        } }
     {
         Patience {
             time: RESPONSE_TIME,
+            slow: 0,
             is_again: false,
             said: None,
         }
@@ -62,23 +70,26 @@ impl Patience {
         is_reported
     }
 
-    /// A server answered, after so long: one that was quick sets the time back.
-    pub(crate) fn answer(&mut self, took: u64)
-        ensures { self.new ≡ after_answer took self.old }
+    /// The server of a place answered, after so long. If it was quick, and is the one that did not
+    /// answer last, it sets the time back: another one doesn't, or a slow first server would never
+    /// have the time that it needs.
+    pub(crate) fn answer(&mut self, place: usize, took: u64)
+        ensures { self.new ≡ after_answer place took self.old }
     {
-        if took <= RESPONSE_TIME {
+        if self.slow == place && took <= RESPONSE_TIME {
             self.time = RESPONSE_TIME;
         }
         self.is_again = false;
     }
 
-    /// A server was lost. Where it did not answer in time, the next one may take twice as long,
-    /// unless this one had less time.
-    pub(crate) fn lose(&mut self, why: Why, is_look: bool)
-        ensures { self.new ≡ after_loss_of why is_look self.old }
+    /// The server of a place was lost. Where it did not answer in time, the next one may take twice
+    /// as long, unless this one had less time.
+    pub(crate) fn lose(&mut self, place: usize, why: Why, is_look: bool)
+        ensures { self.new ≡ after_loss_of place why is_look self.old }
     {
         if why == Why::NoAnswer && !is_look && !self.is_again {
             self.time = self.time.saturating_mul(2).min(LONGEST_RESPONSE);
+            self.slow = place;
         }
         self.is_again = false;
     }

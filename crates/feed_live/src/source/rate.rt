@@ -44,9 +44,9 @@ impl Rate {
         self.total = self.total.saturating_add(count);
     }
 
-    /// From when on no more than the share of all came of late, if nothing more comes.
-    pub(crate) fn calm_at(&self) -> u64 {
-        let share = self.total / SHARE;
+    /// From when on no more than so many shares of all came of late, if nothing more comes.
+    pub(crate) fn calm_at(&self, shares: u64) -> u64 {
+        let share = (self.total / SHARE).saturating_mul(shares);
         let mut recent = self
             .slices
             .iter()

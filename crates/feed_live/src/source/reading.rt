@@ -9,14 +9,13 @@ ghost use Rattle.feed_follow.specs.Standing.{Standing};
 ghost use Rattle.feed_hub.specs.Upstream.{IsFollowing, IsPushed};
 ghost use Rattle.feed_live.specs.Upstream.{wants_memory};
 ghost use Rattle.feed_live.specs.Leading.{is_other_log};
-ghost use Rattle.feed_live.specs.Leaving.{refused_after};
+ghost use Rattle.feed_live.specs.Leaving.{asked_after_refusal, refused_after};
 
 use crate::source::leading::Coming;
-use crate::source::settling::followed_of;
-use crate::source::settling::showing::End;
+use crate::source::settling::{End, followed_of};
 use crate::source::{Reach, Source, has_to_wait};
 use feed_device::{Desk, Excerpt, Lack, Link, Report, Why};
-use feed_figures::Following;
+use feed_figures::{FollowFailure, Following};
 use feed_follow::{FollowFault, Progress};
 use feed_node::{FeedFault, Mirror};
 use feed_screens::Screens;
@@ -150,7 +149,7 @@ impl Source {
         let mut buf = [0u8; PIECE];
         match link.read(&mut buf) {
             Ok(0) => {
-                self.settle_ended(desk, link, screens, 0, End::Broken);
+                self.settle_ended(desk, link, screens, 0, End::Cut);
                 self.end(desk, link, Why::Ended);
                 false
             }
@@ -163,7 +162,7 @@ impl Source {
             }
             Err(stop) => {
                 if !has_to_wait(stop) {
-                    self.settle_ended(desk, link, screens, 0, End::Broken);
+                    self.settle_ended(desk, link, screens, 0, End::Cut);
                     self.end(desk, link, Why::Broke);
                 }
                 false
@@ -320,7 +319,7 @@ impl Source {
                 }
                 self.report_fault(desk, fault, line);
                 self.say(desk, screens);
-                self.settle_ended(desk, link, screens, next.len(), End::Broken);
+                self.settle_ended(desk, link, screens, next.len(), End::Bad(line));
                 self.lost(desk, link, Why::Fault(fault));
                 None
             }
@@ -375,7 +374,8 @@ impl Source {
     /// Where that is the one before the newest, it is asked with the newest first.
     fn refused<L: Link>(&mut self, desk: &mut Desk, link: &mut L)
         ensures left { WasLeft self.old self.new (L.exchanges link.old) (L.exchanges link.new) }
-        ensures at_once { self.new.upstream.since ≡ desk.old.time }
+        ensures next { self.new.upstream.since ≡ (if is_some self.old.rechecking.again
+            then desk.old.time else asked_after_refusal self.old desk.old.time) }
         ensures counts { self.new.upstream.refused ≡ (if is_some self.old.rechecking.again
             then self.old.upstream.refused else refused_after self.old desk.old.time) }
         ensures heeds { HeedsTime self.old self.new desk.old.time desk.new.time }
@@ -397,7 +397,7 @@ impl Source {
     /// server refuses it a second time, it is asked for everything.
     pub(crate) fn without_token<L: Link>(&mut self, desk: &mut Desk, link: &mut L)
         ensures left { WasLeft self.old self.new (L.exchanges link.old) (L.exchanges link.new) }
-        ensures at_once { self.new.upstream.since ≡ desk.old.time }
+        ensures next { self.new.upstream.since ≡ asked_after_refusal self.old desk.old.time }
         // who refused the token counts, until each one has
         ensures counts { self.new.upstream.refused ≡ refused_after self.old desk.old.time }
         // a first server whose log is another one is asked for everything, at once
@@ -409,11 +409,13 @@ impl Source {
     {
         let now = desk.time;
         let server = self.upstream.place();
-        self.patience.answer(now.saturating_sub(self.opened));
+        self.patience
+            .answer(server, now.saturating_sub(self.opened));
         let back = self.leading.end_look();
         let is_other_log = self.leading.refuse(server, now);
         self.leave(link, now);
         self.figures.refuse_token(now);
+        self.servers.fail(server, FollowFailure::TokenRefused, now);
         self.figures.change(Following::Away, now);
         self.leading.fail(server, Lack::TokenRefused, now);
         if is_other_log {
@@ -447,6 +449,7 @@ impl Source {
             self.settling.go_on();
         }
         self.figures.find(self.coming.is_some(), desk.time);
+        self.servers.answer(server);
         let away = desk.time.saturating_sub(self.away_since);
         desk.reports
             .add_if(self.is_found_news(), Report::Found { server, away });
@@ -454,7 +457,7 @@ impl Source {
         let comes = self.what_comes();
         let is_again = self.patience.is_again() || self.leading.is_back(server);
         self.returning.find(is_again, desk.time);
-        self.patience.answer(took);
+        self.patience.answer(server, took);
         self.leading.find(desk, server, took, comes);
     }
 

@@ -215,11 +215,23 @@ fn agree(alloc: Global, tables: &Tables, changes: &[Change]) -> Result<bool, All
         made.apply(alloc, change)?;
     }
     for change in changes {
-        if !tables.agree_at(&made, change) {
+        if !agree_where(tables, &made, change) {
             return Ok(false);
         }
     }
     Ok(true)
+}
+
+/// Whether tables have what others have where a change is. One that removes an object leaves the
+/// type, which tables that were made of nothing lack: there the object counts alone.
+fn agree_where(tables: &Tables, made: &Tables, change: &Change) -> bool {
+    match change {
+        Change::Remove(kind, id) => {
+            let (kind, id) = (kind.text(), id.text());
+            tables.get(kind, id).is_some() == made.get(kind, id).is_some()
+        }
+        _ => tables.agree_at(made, change),
+    }
 }
 
 /// The token that a connection asks with: the one before the newest, where the newest commit is to
@@ -243,7 +255,7 @@ pub(crate) fn token_for<'a>(mirror: &'a Mirror, is_again: bool) -> Option<&'a st
 impl Source {
     ghost use Rattle.feed_live.specs.Times.{HeedsTime, SameTimes};
     ghost use Rattle.feed_live.specs.Relaying.{StillFollows, SameSource, WasLeft, within_turn};
-    ghost use Rattle.feed_live.specs.Leaving.{is_past, is_to_recheck, newest_time, refused_after};
+    ghost use Rattle.feed_live.specs.Leaving.{asked_after_refusal, is_past, is_to_recheck, newest_time, refused_after};
     ghost use Rattle.feed_live.specs.declared.source.Reach.TheVariants.{Away, Reads as Read};
 
     /// What the next connection is to bring, where it asks for the newest commit again.
@@ -361,7 +373,7 @@ impl Source {
     /// whether they have that, and then everything is asked for.
     fn forgot<L: Link>(&mut self, desk: &mut Desk, link: &mut L)
         ensures left { WasLeft self.old self.new (L.exchanges link.old) (L.exchanges link.new) }
-        ensures at_once { self.new.upstream.since ≡ desk.old.time }
+        ensures next { self.new.upstream.since ≡ asked_after_refusal self.old desk.old.time }
         ensures counts { self.new.upstream.refused ≡ refused_after self.old desk.old.time }
         ensures heeds { HeedsTime self.old self.new desk.old.time desk.new.time }
         ensures calls { L.calls link.new ≡ L.calls link.old }

@@ -11,11 +11,14 @@ ghost use Rattle.feed_node.specs.Mirroring.{new_mirror};
 ghost use Rattle.feed_live.specs.Relaying.{following_mirror};
 
 mod behind;
+mod ending;
+mod holding;
 pub(crate) mod showing;
 
 use crate::source::Source;
 use crate::source::rate::Rate;
 use crate::times::{LONGEST_REPLAY, REPLAY_REPORT};
+pub(crate) use ending::End;
 use feed_audit::{Difference, difference_of};
 use feed_device::{Desk, Excerpt, Link, Report};
 use feed_figures::Following;
@@ -24,6 +27,10 @@ use std::alloc::{AllocError, Global};
 
 /// A read of no more bytes may be a line feed in a chunk, which only keeps the connection alive.
 const ALIVE: usize = 8;
+
+/// For how many times the pause what comes is to be quiet where it is smaller than what is shown: a
+/// server that is overloaded pauses, too.
+const LONGER: u64 = 10;
 
 /// What is known of what comes afresh: when it has settled, and what becomes of it then.
 #[derive(Clone, Copy)]
@@ -40,6 +47,8 @@ pub(crate) struct Settling {
     is_begun: bool,
     /// How much came of late.
     rate: Rate,
+    /// How much came within a longer time.
+    long_rate: Rate,
     /// How many bytes came on the connection.
     bytes: u64,
     /// How many lines came on it.
@@ -54,12 +63,19 @@ pub(crate) struct Settling {
     is_same: bool,
     /// Whether what settled last was shown at its own token alone.
     was_alone: bool,
+    /// Whether what broke at one token twice is shown where nothing else is.
+    serves_broken: bool,
 }
 
 impl Settling {
-    pub(crate) fn new(pause: u64, is_always: bool, is_strange: bool) -> Settling
+    pub(crate) fn new(
+        pause: u64,
+        is_always: bool,
+        is_strange: bool,
+        serves_broken: bool,
+    ) -> Settling
         ensures set { (result.pause ≡ pause) × (result.is_always ≡ is_always)
-            × (result.is_strange ≡ is_strange) }
+            × (result.is_strange ≡ is_strange) × (result.serves_broken ≡ serves_broken) }
         ensures nothing { (result.is_begun ≡ false) × (result.bytes ≡ 0) × (result.lines ≡ 0)
             × (result.is_within ≡ false) × (result.is_compared ≡ false)
             × (result.is_same ≡ false) × (result.was_alone ≡ false) × (result.began ≡ 0) }
@@ -71,6 +87,7 @@ impl Settling {
             began: 0,
             is_begun: false,
             rate: Rate::new(pause),
+            long_rate: Rate::new(pause.saturating_mul(LONGER)),
             bytes: 0,
             lines: 0,
             is_within: false,
@@ -78,6 +95,7 @@ impl Settling {
             is_compared: false,
             is_same: false,
             was_alone: false,
+            serves_broken,
         }
     }
 
@@ -85,7 +103,8 @@ impl Settling {
     pub(crate) fn begin(&mut self, now: u64)
         ensures set { (self.new.pause ≡ self.old.pause) × (self.new.is_always ≡ self.old.is_always)
             × (self.new.is_strange ≡ self.old.is_strange)
-            × (self.new.was_alone ≡ self.old.was_alone) }
+            × (self.new.was_alone ≡ self.old.was_alone)
+            × (self.new.serves_broken ≡ self.old.serves_broken) }
         ensures times { (self.new.began ≡ now) × (self.new.reported ≡ now) }
         ensures nothing { (self.new.is_begun ≡ false) × (self.new.bytes ≡ 0)
             × (self.new.lines ≡ 0) × (self.new.is_within ≡ false)
@@ -95,7 +114,12 @@ impl Settling {
             began: now,
             reported: now,
             was_alone: self.was_alone,
-            ..Settling::new(self.pause, self.is_always, self.is_strange)
+            ..Settling::new(
+                self.pause,
+                self.is_always,
+                self.is_strange,
+                self.serves_broken,
+            )
         };
     }
 
@@ -104,6 +128,7 @@ impl Settling {
         // the longest time is counted from the first byte on
         ensures { self.new ≡ record self.old {
           rate = self.new.rate;
+          long_rate = self.new.long_rate;
           is_begun = true;
           began = if self.old.is_begun then self.old.began else now;
           bytes = later self.old.bytes count;
@@ -116,6 +141,7 @@ impl Settling {
         self.bytes = self.bytes.saturating_add(count as u64);
         if count > ALIVE {
             self.rate.add(count as u64, now);
+            self.long_rate.add(count as u64, now);
         }
     }
 
@@ -155,8 +181,24 @@ impl Settling {
         if self.pause == 0 {
             0
         } else {
-            self.rate.calm_at()
+            self.rate.calm_at(1)
         }
+    }
+
+    /// The same, where it is to be quiet for longer.
+    fn long_calm_at(&self) -> u64
+        ensures { self.now.pause ≡ 0 → result ≡ 0 }
+    {
+        if self.pause == 0 {
+            0
+        } else {
+            self.rate.calm_at(1).max(self.long_rate.calm_at(LONGER))
+        }
+    }
+
+    /// For how long that is, in milliseconds.
+    fn longer(&self) -> u64 {
+        self.pause.saturating_mul(LONGER)
     }
 
     /// When it is shown as far as it has come.
@@ -293,7 +335,12 @@ impl Source {
         if self.has_more || !self.rest.is_empty() {
             return Some(late);
         }
-        Some(late.min(self.settling.calm_at()))
+        let calm = if self.is_smaller() {
+            self.settling.long_calm_at()
+        } else {
+            self.settling.calm_at()
+        };
+        Some(late.min(calm))
     }
 
     /// When it is reported the next time how much has come.
@@ -337,6 +384,7 @@ impl Source {
         ensures heeds { HeedsTime self.old self.new desk.old.time desk.new.time }
         ensures more { self.new.has_more ≡ self.old.has_more }
     {
+        self.report_held(desk);
         let Some(at) = self.reports_at() else {
             return;
         };
@@ -368,7 +416,7 @@ impl Source {
     /// Whether a server with tokens of its own came to the state and the token that are shown, and
     /// has nothing newer. It holds a token before that one, which screens may have for another
     /// state. With the next commit it holds that no more, and takes the place of what is shown.
-    fn is_at_shown(&self) -> bool
+    pub(crate) fn is_at_shown(&self) -> bool
         ensures { result ≡ is_at_shown self.now }
     {
         match &self.coming {

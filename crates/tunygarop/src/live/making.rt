@@ -30,6 +30,7 @@ fn limits_of(options: &LiveOptions<'_>, are_strange: bool) -> LiveLimits {
         rechecks: !options.no_recheck,
         hold: options.hold.saturating_mul(1_000),
         serves_old: options.serve_old,
+        serves_broken: options.serve_broken,
         has_store: options.state.is_some(),
         ends_with_input: options.until_eof,
     }

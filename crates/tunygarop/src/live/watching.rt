@@ -2,8 +2,10 @@
 
 use feed_commands::VERSION;
 use feed_live::Live;
-use feed_process::{Watched, Words, file_of, screen_of, screens_of, upstream_of};
-use feed_status::{Plots, Process, Status, Watch, WatchedScreen};
+use feed_process::{
+    Standing, Watched, Words, file_of, screen_of, screens_of, server_of, upstream_of,
+};
+use feed_status::{Plots, Process, Status, Watch, WatchedScreen, WatchedServer};
 use feed_system::process;
 use std::alloc::{AllocError, Global};
 
@@ -48,6 +50,22 @@ impl Watch for View<'_> {
             latency: self.watched.latency,
             plot: self.watched.plots.latest(),
         }
+    }
+
+    fn servers(&self, alloc: Global) -> Result<Vec<WatchedServer>, AllocError> {
+        let feed = self.live.feed_figures();
+        let token = self.live.node().token().map(|token| token.text());
+        let standing = Standing {
+            feed: &feed,
+            token,
+            now: self.now,
+        };
+        let mut told = Vec::new(alloc);
+        let named = self.words.servers.iter().zip(self.live.server_figures());
+        for (number, (name, server)) in named.enumerate() {
+            told.push(server_of(alloc, number, name.as_str(), server, standing)?)?;
+        }
+        Ok(told)
     }
 
     fn screens(&self, alloc: Global, most: usize) -> Result<Vec<WatchedScreen>, AllocError> {

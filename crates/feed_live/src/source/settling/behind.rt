@@ -1,6 +1,7 @@
 //! A first server that was asked for everything, since it refused our token, may only be behind us:
 //! a relay that lost its way, say. Then our kept commits lead from its state to ours, and nothing
-//! of it is shown.
+//! of it is shown. So it is with another one that was asked for everything while the first one
+//! fails.
 
 ghost use Rattle.std.specs.Prelude.{◌≡◌, ◌%◌, false, true};
 ghost use Rattle.feed_live.specs.Answering.{wants_all};
@@ -48,8 +49,8 @@ impl Source {
     ghost use Rattle.feed_live.specs.Times.{HeedsTime, SameTimes};
     ghost use Rattle.feed_live.specs.Relaying.{SameSource, WasLeft};
 
-    /// Whether what came afresh of the first server, since it refused our token, is only behind
-    /// what is shown. That is reported, and noted.
+    /// Whether what came afresh of a server that was asked for everything, though our token is
+    /// known, is only behind what is shown. That is reported, and noted.
     pub(crate) fn is_behind(&mut self, desk: &mut Desk) -> bool
         ensures same { SameSource self.old self.new }
         ensures times { SameTimes self.old self.new }
@@ -66,7 +67,7 @@ impl Source {
             None => false,
         };
         if is_behind {
-            self.leading.find_behind(desk.time);
+            self.leading.find_behind(server, desk.time);
             desk.reports.add(Report::Behind { server });
         }
         is_behind

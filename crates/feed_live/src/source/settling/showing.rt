@@ -3,16 +3,13 @@
 ghost use Rattle.std.specs.Prelude.{◌≡◌, ◌≢◌, ◌⊎◌, ◌&&◌, ◌||◌, ℕ, List, length, None, IfOk, false, true, not, is_some};
 ghost use Rattle.feed_live.specs.Afresh.{goes_on_from, has_come, is_at_shown};
 ghost use Rattle.feed_node.specs.Saved.{restored_from};
-ghost use Rattle.feed_node.specs.States.{published_token};
-ghost use Rattle.feed_live.specs.declared.source.settling.showing.End.TheVariants.{Broken};
 
 use crate::source::{Reach, Source};
-use feed_device::{Desk, Link, Report, Why};
+use feed_device::{CameSo, Desk, Link, Report, Why};
 use feed_figures::Following;
 use feed_node::Mirror;
 use feed_screens::Screens;
 use std::alloc::{AllocError, Global};
-use std::mem;
 
 /// Why a server is left at which a feed settled.
 #[derive(Clone, Copy)]
@@ -23,16 +20,6 @@ pub(crate) enum Leaves {
     Memory,
     /// What came is behind what is shown: the next server is asked.
     Behind,
-}
-
-/// How a connection ends over which something came afresh.
-#[derive(Clone, Copy)]
-pub(crate) enum End {
-    /// Its body is complete: its last chunk came, or all that its length says.
-    Whole,
-    /// It broke off before that, or has a line that can't be followed. So does one whose end can't
-    /// be told from that, since it has neither chunks nor a length.
-    Broken,
 }
 
 /// A mirror that shows the same, and holds its token alone.
@@ -80,11 +67,23 @@ impl Source {
             return;
         }
         let unread = self.rest.len();
-        match self.settle(desk, link, screens, unread) {
+        let way = self.way_now(desk.time);
+        match self.settle(desk, link, screens, unread, way) {
             Some(Leaves::Again) => self.ask_again(link, desk.time),
             Some(Leaves::Memory) => self.lost(desk, link, Why::Memory),
             Some(Leaves::Behind) => self.ask_other(link, desk.time),
             None => {}
+        }
+    }
+
+    /// Why what comes is shown that is due.
+    fn way_now(&self, now: u64) -> CameSo {
+        if self.settling.shown_by() <= now {
+            CameSo::Late
+        } else if self.is_smaller() {
+            CameSo::Small
+        } else {
+            CameSo::Quiet
         }
     }
 
@@ -97,79 +96,6 @@ impl Source {
         }
     }
 
-    /// The connection ended, or what comes on it can't be followed any more. What came afresh may
-    /// be all, or the server was killed, or has a line that is none. So many bytes of it are
-    /// unread. A complete body is shown where nothing is, or where it goes on from what is; else
-    /// once it ended at one token twice. What broke is shown where it goes on from what is, and
-    /// where nothing is once it broke at one token twice: it never takes the place of anything.
-    pub(crate) fn settle_ended<L: Link>(
-        &mut self,
-        desk: &mut Desk,
-        link: &mut L,
-        screens: &mut Screens,
-        unread: usize,
-        end: End,
-    )
-        ensures shows { StillShows
-            (counted_within_turn (L.exchanges link.old) self.old unread screens.old)
-            self.new (L.exchanges link.new) screens.new }
-        // what is shown stays where the feed broke, and doesn't go on from that
-        ensures keeps { end ≡ Broken
-            → is_some (published_token self.old.answers.shown.mirror.node) ≡ true
-            → goes_on_from self.old ≡ false
-            → self.new.answers.shown.mirror ≡ self.old.answers.shown.mirror }
-        ensures heeds { HeedsTime self.old self.new desk.old.time desk.new.time }
-        ensures calls { L.calls link.new ≡ L.calls link.old }
-    {
-        if self.is_to_show_end(end) {
-            self.settle(desk, link, screens, unread);
-        }
-    }
-
-    /// Whether what came afresh is to be shown though it has not settled, since the connection
-    /// ends so.
-    fn is_to_show_end(&mut self, end: End) -> bool
-        ensures same { SameSource self.old self.new }
-        ensures times { SameTimes self.old self.new }
-        ensures broken { end ≡ Broken
-            → is_some (published_token self.old.answers.shown.mirror.node) ≡ true
-            → goes_on_from self.old ≡ false → result ≡ false }
-    {
-        if self.coming.is_none() {
-            return false;
-        }
-        let is_first = self.answers.shown.node().token().is_none();
-        let goes_on = self.goes_on();
-        let was_whole = mem::replace(&mut self.ended_whole, matches!(end, End::Whole));
-        let is_again = self.ends_again();
-        match end {
-            End::Whole => is_first || goes_on || is_again && was_whole,
-            End::Broken => goes_on || is_first && is_again,
-        }
-    }
-
-    /// Whether what came afresh ended where that of the same server did the last time; its last
-    /// token is noted.
-    fn ends_again(&mut self) -> bool
-        ensures same { SameSource self.old self.new }
-        ensures times { SameTimes self.old self.new }
-    {
-        let token = match &self.coming {
-            Some(coming) => coming.node().token(),
-            None => None,
-        };
-        let server = self.upstream.place();
-        let again = match (token, &self.ended) {
-            (Some(token), Some((its, ended))) => *its == server && token.text() == ended.text(),
-            _ => false,
-        };
-        self.ended = match token {
-            Some(token) => token.copy().ok().map(|token| (server, token)),
-            None => None,
-        };
-        again
-    }
-
     /// What came afresh takes the place of what is shown, where it has published. Screens go on
     /// from what they have where it had the same state at that token, and has all since then. Else
     /// it is shown at its own token alone: it may hold tokens of states that were none. So many
@@ -180,6 +106,7 @@ impl Source {
         link: &mut L,
         screens: &mut Screens,
         unread: usize,
+        way: CameSo,
     ) -> Option<Leaves>
         ensures shows { StillShows
             (counted_within_turn (L.exchanges link.old) self.old unread screens.old)
@@ -199,7 +126,7 @@ impl Source {
         if self.is_behind(desk) {
             return Some(Leaves::Behind);
         }
-        self.report_settled(desk);
+        self.report_settled(desk, way);
         if self.is_alone() {
             return Some(self.settle_alone(desk, link, screens, unread));
         }
@@ -245,20 +172,16 @@ impl Source {
         }
     }
 
-    fn report_settled(&mut self, desk: &mut Desk)
+    fn report_settled(&mut self, desk: &mut Desk, way: CameSo)
         ensures same { SameSource self.old self.new }
         ensures heeds { HeedsTime self.old self.new desk.old.time desk.new.time }
         ensures more { self.new.has_more ≡ self.old.has_more }
     {
         let server = self.upstream.place();
-        self.figures.change(Following::Answered, desk.time);
-        desk.reports.add(Report::Settled {
-            server,
-            time: desk.time.saturating_sub(self.settling.began),
-        });
-        if self.leading.wants_all(server) && !self.goes_on() {
-            self.leading.stand_alone();
-        }
+        let time = self.figures.settle(desk.time);
+        desk.reports.add(Report::Settled { server, time, way });
+        let goes_on = self.goes_on();
+        self.leading.take_all(server, goes_on);
         self.leading.show(desk, server);
     }
 

@@ -57,5 +57,6 @@ returns g c =
       settles = (
         ap (λ s. s.pause) c.begin_input.ensures.settling ∙ c.new-source.ensures.settles.0,
         ap (λ s. s.is_always) c.begin_input.ensures.settling ∙ c.new-source.ensures.settles.1,
+        ap (λ s. s.serves_broken) c.begin_input.ensures.settling ∙ c.new-source.ensures.settles.2,
       );
     }
