@@ -64,6 +64,7 @@ complete -c tunygarop -n '__fish_seen_subcommand_from live' -l fresh -d 'Ask for
 complete -c tunygarop -n '__fish_seen_subcommand_from live' -l no-recheck -d 'Do not ask for the newest commit again'
 complete -c tunygarop -n '__fish_seen_subcommand_from live' -l return -x -d 'Seconds without a commit after which other servers are asked, 0 to 3600'
 complete -c tunygarop -n '__fish_seen_subcommand_from live' -l hold -x -d 'Seconds that requests wait for a server, after a start with a state, 0 to 3600'
+complete -c tunygarop -n '__fish_seen_subcommand_from live' -l serve-broken -d 'Serve what breaks at one place twice up to there, where nothing is shown'
 complete -c tunygarop -n '__fish_seen_subcommand_from live' -l serve-old -d 'Serve the state of the file before a server was heard'
 complete -c tunygarop -n '__fish_seen_subcommand_from live' -l until-eof -d 'End where standard input ends'
 complete -c tunygarop -n '__fish_seen_subcommand_from live' -l verbose -d 'Report each screen, too'
