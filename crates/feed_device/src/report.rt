@@ -52,6 +52,8 @@ pub enum Lack {
     Left(Why),
     /// It doesn't hold our token.
     TokenRefused,
+    /// It has another commit at our token.
+    OtherCommit,
     /// It had nothing new, and another one has.
     Quiet,
 }
@@ -62,6 +64,7 @@ impl Lack {
         match (self, other) {
             (Lack::Left(one), Lack::Left(other)) => one == other,
             (Lack::TokenRefused, Lack::TokenRefused) => true,
+            (Lack::OtherCommit, Lack::OtherCommit) => true,
             (Lack::Quiet, Lack::Quiet) => true,
             _ => false,
         }
@@ -78,6 +81,7 @@ impl fmt::Display for Lack {
         match self {
             Lack::Left(why) => write!(f, "{why}"),
             Lack::TokenRefused => f.write_str("doesn't hold our token"),
+            Lack::OtherCommit => f.write_str("has another commit at our token"),
             Lack::Quiet => f.write_str("nothing new"),
         }
     }
@@ -245,6 +249,19 @@ pub enum Report {
     /// A server sends all that it has though it was asked for what comes after our token.
     Ignores {
         server: usize,
+    },
+    /// The tokens of a server are no positions in what it sends, as those of a dump whose lines have
+    /// the tokens of their events: this one came behind a later one, or came again after a token
+    /// that it was sent before. Everything is asked for each time.
+    NoPositions {
+        server: usize,
+        token: Excerpt,
+    },
+    /// A server left out the commit of this token when it was asked with the one before, and has it
+    /// where it sends everything. Everything is asked for each time.
+    LeavesOut {
+        server: usize,
+        token: Excerpt,
     },
     /// A server that was asked for everything has another state at the token that is shown: first
     /// at this type, and at this id in its collection. They are empty where it was not found out.

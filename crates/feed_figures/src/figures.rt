@@ -174,9 +174,9 @@ impl FeedFigures {
         now.saturating_sub(since)
     }
 
-    /// What comes is held back.
-    pub fn hold(&mut self) {
-        self.is_held = true;
+    /// What comes is held back, or isn't any more.
+    pub fn hold(&mut self, is_held: bool) {
+        self.is_held = is_held;
     }
 
     /// The server is lost.
@@ -192,9 +192,9 @@ impl FeedFigures {
         self.change(Following::Away, now);
     }
 
-    /// The server does not hold the token that it was asked with.
-    pub fn refuse_token(&mut self, now: u64) {
-        self.fail(FollowFailure::TokenRefused, now);
+    /// The server does not hold the token that it was asked with, or has another commit there.
+    pub fn refuse_token(&mut self, failure: FollowFailure, now: u64) {
+        self.fail(failure, now);
     }
 
     /// When it is reported that changes wait for a token for long.

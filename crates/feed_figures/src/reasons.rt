@@ -87,13 +87,15 @@ pub enum FollowFailure {
     Left(Why),
     /// The server doesn't hold the token that it was asked with.
     TokenRefused,
+    /// The server has another commit at that token, or none.
+    OtherCommit,
 }
 
 impl FollowFailure {
     /// What it is counted as.
     pub fn reason(&self) -> Reason {
         match self {
-            FollowFailure::TokenRefused => Reason::Token,
+            FollowFailure::TokenRefused | FollowFailure::OtherCommit => Reason::Token,
             FollowFailure::Left(Why::Late) => Reason::Late,
             FollowFailure::Left(Why::NoAnswer) => Reason::NoAnswer,
             FollowFailure::Left(Why::Broke) => Reason::Broke,
@@ -111,7 +113,7 @@ impl FollowFailure {
         match self {
             FollowFailure::TokenRefused => Some(400),
             FollowFailure::Left(Why::Fault(FollowFault::Status(status))) => Some(*status),
-            FollowFailure::Left(_) => None,
+            FollowFailure::OtherCommit | FollowFailure::Left(_) => None,
         }
     }
 }
@@ -121,6 +123,7 @@ impl fmt::Display for FollowFailure {
         match self {
             FollowFailure::Left(why) => write!(f, "{why}"),
             FollowFailure::TokenRefused => f.write_str("doesn't hold our token"),
+            FollowFailure::OtherCommit => f.write_str("has another commit at our token"),
         }
     }
 }

@@ -1,6 +1,6 @@
 -- The first server of the command line is right: what is known of it while another one is followed.
 -- All times are in milliseconds.
-use Rattle.std.specs.Prelude.{◌≡◌, ℕ, ◌+◌, ◌-◌, ◌*◌, ◌^◌, Bool, false, not, ◌&&◌, nat_eq, nat_le, nat_lt, min, max, if◌then◌else◌, Option, Some, None, is_some}
+use Rattle.std.specs.Prelude.{◌≡◌, ℕ, ◌+◌, ◌-◌, ◌*◌, ◌^◌, Bool, false, not, ◌&&◌, ◌||◌, nat_eq, nat_le, nat_lt, min, max, if◌then◌else◌, Option, Some, None, is_some}
 use Rattle.feed_hub.specs.Upstream.{later}
 use Rattle.feed_device.specs.declared.report.Lack.{Lack}
 use Rattle.feed_live.specs.declared.source.leading.Leading.{Leading}
@@ -37,6 +37,12 @@ is_other_log leading place now =
 -- old log, with the same tokens.
 abbrev pub asks_all : Leading → ℕ → Bool
 asks_all leading place = if is_first leading place then leading.wants_all else leading.is_alone
+
+-- What came of a server that was asked for everything is shown. Where that is the first one's other
+-- log, which doesn't go on from what was shown, it stands alone: the others may have the old one.
+abbrev pub stands_alone : Leading → ℕ → Bool → Bool
+stands_alone leading place goes_on =
+    is_first leading place && (leading.is_alone || leading.wants_all && not goes_on)
 
 -- the first one hasn't been followed for a minute
 abbrev pub has_lacked : Option (Lack × ℕ) → ℕ → Bool

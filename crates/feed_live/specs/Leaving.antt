@@ -38,6 +38,18 @@ is_end Silent = false
 is_end (Fault fault) = false
 is_end Memory = false
 
+-- nothing came for twice the time after which a server sends a line feed
+abbrev pub is_silence : Why → Bool
+is_silence Silent = true
+is_silence Unknown = false
+is_silence Refuses = false
+is_silence Late = false
+is_silence NoAnswer = false
+is_silence Broke = false
+is_silence Ended = false
+is_silence (Fault fault) = false
+is_silence Memory = false
+
 -- ---- a server that does not answer
 
 -- A server was left for having nothing new. Since then nothing was published, and none was lost
@@ -309,10 +321,6 @@ IsToMove source idle now =
 abbrev pub IsAtRest : Source → Type 0
 IsAtRest source = (source.has_more ≡ false) × (source.reach ≢ Reads)
 
--- One that is late or silent is left, and the next one is asked.
-abbrev pub LeavesLate : Source → Source → ℕ → ℕ → Type 0
-LeavesLate old new idle now =
-    IsToLeave old idle now → (new.reach ≡ Away) × (new.has_more ≡ false) × GoesOnTo old new now
 
 -- It is neither late nor silent, nor is it to be left for a look at the first one, or for having
 -- nothing new, nor to be asked with the newest token.
@@ -339,6 +347,22 @@ pub record AsksAgain (old new : Source) (now : ℕ) : Type 0 where
   pub at_once : new.upstream.since ≡ now
   pub counts : (new.upstream.failed ≡ 0) × (new.upstream.refused ≡ old.upstream.refused)
   pub pause : new.upstream.pause ≡ 1000
+
+-- One that is left for this is asked again at once: it is silent, but it had answered, with its
+-- newest commit where that was asked for, and nothing of it is yet to settle. It may send no line
+-- feeds while nothing happens.
+abbrev pub is_asked_again : Source → Why → Bool
+is_asked_again source why =
+    is_silence why && is_some source.body_since && is_none source.rechecking.again
+    && (is_none source.coming || is_at_shown source)
+
+-- One that is late or silent is left, and the next one is asked, or the same one again.
+abbrev pub LeavesLate : Source → Source → ℕ → ℕ → Type 0
+LeavesLate old new idle now =
+    (why : Why) → old.reach ≢ Away → why_left old idle now ≡ Some why
+    → (new.reach ≡ Away) × (new.has_more ≡ false)
+    × (is_asked_again old why ≡ true → AsksAgain old new now)
+    × (is_asked_again old why ≡ false → GoesOnTo old new now)
 
 -- ---- when a relay looks
 

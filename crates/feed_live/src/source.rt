@@ -12,6 +12,7 @@ mod input;
 mod leading;
 mod looking;
 mod patience;
+mod positions;
 mod rate;
 mod reading;
 mod rechecking;

@@ -67,6 +67,8 @@ fn server_of(report: &Report) -> Option<usize> {
         | Report::OtherLog { server }
         | Report::Behind { server }
         | Report::Ignores { server }
+        | Report::NoPositions { server, .. }
+        | Report::LeavesOut { server, .. }
         | Report::Differs { server, .. }
         | Report::Forgot { server, .. }
         | Report::Settled { server, .. }
@@ -226,6 +228,20 @@ fn text_of_token(alloc: Global, report: &Report, name: &str) -> Result<String, A
             format!(in alloc;
                 "upstream {name}: has another commit at the token {token}, or none; \
                  if no other server has ours, everything is asked for"
+            )
+        }
+        Report::NoPositions { token, .. } => {
+            let token = token.text();
+            format!(in alloc;
+                "upstream {name}: its tokens are no positions in what it sends, as {token} shows; \
+                 from here on as with --fresh"
+            )
+        }
+        Report::LeavesOut { token, .. } => {
+            let token = token.text();
+            format!(in alloc;
+                "upstream {name}: left out the commit at the token {token}; \
+                 from here on as with --fresh"
             )
         }
         _ => text_of_coming(alloc, report, name),

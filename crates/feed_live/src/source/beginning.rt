@@ -4,9 +4,10 @@
 //! framed in chunks.
 
 use crate::source::Source;
+use crate::source::positions::Positions;
 use crate::source::reading::{line_or_part, location_of};
 use crate::source::rechecking::Again;
-use feed_device::Excerpt;
+use feed_device::{Desk, Excerpt, Report};
 use feed_node::{Mirror, Node};
 use feed_tables::{Change, Name, Tables};
 use std::alloc::{AllocError, Global};
@@ -14,6 +15,9 @@ use std::alloc::{AllocError, Global};
 /// Of how many types and objects a state has to be at least that is compared with what a body
 /// begins with.
 const LEAST: usize = 8;
+
+/// How many tokens are looked at of what comes after ours.
+const LOOKED_AT: usize = 256;
 
 /// How many bytes of a line of a head are looked at.
 const LONGEST_FIELD: usize = 2_048;
@@ -26,8 +30,13 @@ pub(crate) struct Beginning {
     first: Option<(Name, usize)>,
     /// Whether that was noted of this connection.
     is_noted: bool,
-    /// What follows the body up to its first token, where our token was asked with.
+    /// What follows the body up to its first tokens, where our token was asked with.
     follows: Option<Again>,
+    /// How many bytes of what came it has read ahead, and how many tokens there were.
+    ahead: usize,
+    tokens: usize,
+    /// Whether tokens are positions in what is sent.
+    positions: Positions,
     /// What came of a line of the head.
     field: Vec<u8>,
     /// Where the head says that the feed is.
@@ -40,6 +49,9 @@ impl Beginning {
             first: None,
             is_noted: false,
             follows: None,
+            ahead: 0,
+            tokens: 0,
+            positions: Positions::new(alloc),
             field: Vec::new(alloc),
             location: None,
         }
@@ -49,6 +61,9 @@ impl Beginning {
     pub(crate) fn begin(&mut self, follows: Option<Again>) {
         self.is_noted = false;
         self.follows = follows;
+        self.ahead = 0;
+        self.tokens = 0;
+        self.positions.begin();
         self.field.clear();
         self.location = None;
     }
@@ -85,9 +100,19 @@ impl Beginning {
         self.field.clear();
     }
 
-    /// What a mirror that came afresh publishes first is noted.
-    pub(crate) fn note(&mut self, coming: &Mirror) {
-        if self.is_noted || coming.since().is_none() {
+    /// What a mirror that comes afresh published is noted. Whether its last token shows that its
+    /// tokens are no positions.
+    fn note(&mut self, coming: &Mirror) -> bool {
+        let Some(token) = coming.since() else {
+            return false;
+        };
+        self.note_first(coming);
+        self.positions.goes_back(token)
+    }
+
+    /// What it published first is noted.
+    fn note_first(&mut self, coming: &Mirror) {
+        if self.is_noted {
             return;
         }
         self.is_noted = true;
@@ -99,15 +124,42 @@ impl Beginning {
         };
     }
 
+    /// What came afresh is shown at its last token.
+    pub(crate) fn show_alone(&mut self, alloc: Global) {
+        self.positions.show(alloc);
+    }
+
+    /// The token of what comes after ours that was sent before that, where there was one.
+    pub(crate) fn known_again(&self) -> Option<Excerpt> {
+        self.positions.against()
+    }
+
     /// Whether a body that was asked for with our token is followed beside the mirror: not where
     /// none came afresh before.
     fn is_followed(&self) -> bool {
         self.first.is_some()
     }
 
+    /// So many bytes of what came are taken. What comes first is this, of which some was read ahead.
+    /// Whether the server ignores our token, or its tokens are no positions.
+    pub(crate) fn is_replay(&mut self, alloc: Global, piece: &[u8], shown: &Node) -> bool {
+        let mut rest = piece.get(self.ahead..).unwrap_or(&[]);
+        while !rest.is_empty() && self.follows.is_some() {
+            let (line, next) = line_or_part(rest);
+            if self.takes_back(alloc, line, shown) {
+                return true;
+            }
+            rest = next;
+        }
+        let (line, _) = line_or_part(piece);
+        self.ahead = piece.len().saturating_sub(line.len());
+        false
+    }
+
     /// A line of the body comes, or a part of one. Whether the server ignores our token: the body
-    /// begins with the first token of all that was sent before, or with all that is shown.
-    pub(crate) fn is_replay(&mut self, alloc: Global, line: &[u8], shown: &Node) -> bool {
+    /// begins with the first token of all that was sent before, or with all that is shown. Or
+    /// whether a token comes again that was sent before ours.
+    fn takes_back(&mut self, alloc: Global, line: &[u8], shown: &Node) -> bool {
         let Some(follows) = &mut self.follows else {
             return false;
         };
@@ -118,14 +170,35 @@ impl Beginning {
         let Some(token) = follows.token() else {
             return false;
         };
-        let is_replay = match (&self.first, shown.token()) {
-            (_, Some(newest)) if newest.text() == token => false,
-            (Some((first, _)), _) if first.text() == token => true,
-            (Some((_, size)), _) => *size >= LEAST && is_all(alloc, follows.node(), shown),
-            (None, _) => false,
-        };
-        self.follows = None;
+        if !self.positions.is_news(token) {
+            return false;
+        }
+        let is_first = self.tokens == 0;
+        self.tokens = self.tokens.saturating_add(1);
+        let is_newest = shown
+            .token()
+            .is_some_and(|newest| newest.text() == token);
+        let is_all = is_first && begins_again(alloc, &self.first, follows, shown);
+        let is_replay = !is_newest && (is_all || self.positions.came_before(token));
+        if self.tokens >= LOOKED_AT || !self.positions.has_shown() {
+            self.follows = None;
+        }
         is_replay
+    }
+}
+
+/// Whether a body begins with the first token of all that was sent before, or with all that is
+/// shown, at its first token.
+fn begins_again(
+    alloc: Global,
+    first: &Option<(Name, usize)>,
+    follows: &Again,
+    shown: &Node,
+) -> bool {
+    match (first, follows.token()) {
+        (Some((first, _)), Some(token)) if first.text() == token => true,
+        (Some((_, size)), _) => *size >= LEAST && is_all(alloc, follows.node(), shown),
+        (None, _) => false,
     }
 }
 
@@ -190,18 +263,29 @@ impl Source {
         Ok(Some(Again::new(alloc, shown.limits())?))
     }
 
-    /// The first token of what comes afresh is noted.
-    pub(crate) fn note_beginning(&mut self)
+    /// What comes afresh is noted. Where its tokens are no positions in what is sent, everything is
+    /// asked for from here on: what comes after one of them is over.
+    pub(crate) fn note_beginning(&mut self, desk: &mut Desk)
         ensures same { SameSource self.old self.new }
         ensures times { SameTimes self.old self.new }
+        ensures time { desk.new.time ≡ desk.old.time }
     {
-        if let Some(coming) = &self.coming {
-            self.beginning.note(coming);
+        let Some(coming) = &self.coming else {
+            return;
+        };
+        if !self.beginning.note(coming) || self.is_always_fresh() {
+            return;
         }
+        let token = coming.since().unwrap_or("");
+        desk.reports.add(Report::NoPositions {
+            server: self.upstream.place(),
+            token: Excerpt::of(token),
+        });
+        self.settling.ask_all();
     }
 
     /// The first line of the piece comes, or a part of one: of the head, or of the body. Whether
-    /// the server ignores our token.
+    /// the server ignores our token, or its tokens are no positions.
     pub(crate) fn is_replay(&mut self, alloc: Global, piece: &[u8]) -> bool
         ensures same { SameSource self.old self.new }
         ensures times { SameTimes self.old self.new }
@@ -211,6 +295,6 @@ impl Source {
             self.beginning.take_head(line);
         }
         self.beginning
-            .is_replay(alloc, line, self.answers.shown.node())
+            .is_replay(alloc, piece, self.answers.shown.node())
     }
 }

@@ -21,7 +21,7 @@ impl Source {
     ghost use Rattle.feed_live.specs.Times.{HeedsTime, KeepsTimes, SameTimes};
     ghost use Rattle.feed_live.specs.Relaying.{StillFollows, SameSource, SameWaiting, WasLeft, GoesOnTo, IsToConnect, RestsAway, servers_of, within_turn};
     ghost use Rattle.feed_live.specs.Upstream.{IsRequestOf, IsRequestWith, asked_with};
-    ghost use Rattle.feed_live.specs.Leaving.{AsksAgain, LooksAtFirst, after_loss, after_quiet, connect_time, has_answered, has_left_quiet, heard_time, is_end, is_passed_over, is_past, late_time, look_at, newest_time, quiet_at, response_time, stood_long, why_late, why_left, LeavesLate, IsToLeave, IsToMove, IsToStay, IsAtRest, ConnectsTo};
+    ghost use Rattle.feed_live.specs.Leaving.{AsksAgain, LooksAtFirst, after_loss, after_quiet, connect_time, has_answered, has_left_quiet, heard_time, is_asked_again, is_end, is_passed_over, is_past, late_time, look_at, newest_time, quiet_at, response_time, stood_long, why_late, why_left, LeavesLate, IsToLeave, IsToMove, IsToStay, IsAtRest, ConnectsTo};
     ghost use Rattle.feed_live.specs.declared.source.Reach.TheVariants.{Away, Connects as Connecting, Reads as Read};
     ghost use Rattle.feed_screens.specs.declared.screens.Screens.{Screens};
 
@@ -142,7 +142,8 @@ impl Source {
         // none is left where there is none
         ensures away { self.old.reach ≡ Away → (self.new ≡ self.old)
             × (L.calls link.new ≡ L.calls link.old) × (desk.new.time ≡ desk.old.time) }
-        // one that is late or silent is left, and the next one is asked
+        // one that is late or silent is left, and the next one is asked; or the same one again, if
+        // it had answered and is only silent
         ensures leaves { LeavesLate self.old self.new idle desk.old.time }
         // one that is neither, and not to be left for anything else, is followed on
         ensures stays { IsToStay self.old idle desk.old.time → self.new ≡ self.old }
@@ -173,7 +174,7 @@ impl Source {
             return;
         }
         match self.leaves(idle, desk.time) {
-            Some(why) => self.lost(desk, link, why),
+            Some(why) => self.leave_for(desk, link, why),
             None => {
                 if self.is_to_look(desk.time) {
                     self.look(link, desk.time);
@@ -184,6 +185,37 @@ impl Source {
                 }
             }
         }
+    }
+
+    /// A server that is late or silent is left. One that had answered, and is only silent, is asked
+    /// again at once: it may send no line feeds while nothing happens.
+    fn leave_for<L: Link>(&mut self, desk: &mut Desk, link: &mut L, why: Why)
+        ensures left { WasLeft self.old self.new (L.exchanges link.old) (L.exchanges link.new) }
+        ensures calls { L.calls link.new ≡ L.calls link.old }
+        ensures again { is_asked_again self.old why ≡ true
+            → AsksAgain self.old self.new desk.old.time }
+        ensures next { is_asked_again self.old why ≡ false
+            → GoesOnTo self.old self.new desk.old.time }
+        ensures rests { self.new.has_more ≡ false }
+        ensures heeds { HeedsTime self.old self.new desk.old.time desk.new.time }
+        ensures refused { self.new.upstream.refused ≡ self.old.upstream.refused }
+    {
+        if self.is_asked_again(why) {
+            self.end_well(desk, link, why);
+        } else {
+            self.lost(desk, link, why);
+        }
+    }
+
+    /// Whether a server that is left for this is asked again at once: it is silent, but it had
+    /// answered, with its newest commit where that was asked for, and nothing of it is yet to
+    /// settle.
+    fn is_asked_again(&self, why: Why) -> bool
+        ensures { result ≡ is_asked_again self.now why }
+    {
+        let is_over = self.coming.is_none() || self.is_at_shown();
+        let has_answered = self.body_since.is_some() && !self.rechecking.is_going();
+        matches!(why, Why::Silent) && has_answered && is_over
     }
 
     /// Why a server is to be left now, if it is.

@@ -7,7 +7,7 @@
 //! is looked at now and then.
 
 ghost use Rattle.std.specs.Prelude.{◌≡◌, ◌&&◌, ◌||◌, ◌*◌, not, if◌then◌else◌, true, false, None, Some, is_some, min};
-ghost use Rattle.feed_live.specs.Leading.{SameLead, asks_all, has_lacked, is_first, is_back, is_instead, is_other_log, is_shut_out, look_time, looks_next, refused_since, was_behind};
+ghost use Rattle.feed_live.specs.Leading.{SameLead, asks_all, has_lacked, is_first, is_back, is_instead, is_other_log, is_shut_out, look_time, looks_next, refused_since, stands_alone, was_behind};
 ghost use Rattle.feed_live.specs.declared.source.leading.Coming.TheVariants.{News};
 
 use crate::times::{
@@ -210,10 +210,7 @@ impl Leading {
     /// the first one's other log, which doesn't go on from what was shown, it stands alone. What
     /// another one has is asked for with its own tokens from now on.
     pub(crate) fn take_all(&mut self, place: usize, goes_on: bool)
-        ensures { self.new ≡ record self.old {
-          is_alone = is_first self.old place
-              && (self.old.is_alone || self.old.wants_all && not goes_on);
-        } }
+        ensures { self.new ≡ record self.old { is_alone = stands_alone self.old place goes_on } }
     {
         let is_another = self.wants_all && !goes_on;
         self.is_alone = self.is_first(place) && (self.is_alone || is_another);
@@ -327,6 +324,7 @@ impl Leading {
     /// again.
     pub(crate) fn show(&mut self, desk: &mut Desk, place: usize)
         ensures time { desk.new.time ≡ desk.old.time }
+        ensures alone { self.new.is_alone ≡ self.old.is_alone }
     {
         self.hold(place);
         if self.is_first(place) {
@@ -339,6 +337,8 @@ impl Leading {
     /// that is not the first is followed in its place from now on, though that did not fail.
     pub(crate) fn publish(&mut self, desk: &mut Desk, place: usize, holds_former: bool)
         ensures time { desk.new.time ≡ desk.old.time }
+        // where one stands alone, it does until it has published another commit
+        ensures alone { holds_former ≡ false → self.new.is_alone ≡ self.old.is_alone }
     {
         self.show(desk, place);
         if self.is_first(place) {
@@ -357,6 +357,7 @@ impl Leading {
     fn follow(&mut self, desk: &mut Desk, place: usize)
         ensures time { desk.new.time ≡ desk.old.time }
         ensures from { self.new.looks_from ≡ self.old.looks_from }
+        ensures alone { self.new.is_alone ≡ self.old.is_alone }
     {
         let Some((_, since)) = self.lack.take() else {
             return;
@@ -373,6 +374,7 @@ impl Leading {
     fn say_instead(&mut self, desk: &mut Desk, place: usize, lack: Lack)
         ensures time { desk.new.time ≡ desk.old.time }
         ensures from { self.new.looks_from ≡ self.old.looks_from }
+        ensures alone { self.new.is_alone ≡ self.old.is_alone }
     {
         if self.said == Some(place) {
             return;

@@ -296,13 +296,13 @@ impl Source {
             Ok(Progress::Body) => {
                 self.found(desk);
                 self.note_lines(had_part, line, desk.time);
-                self.note_beginning();
+                self.note_beginning(desk);
                 self.say(desk, screens);
                 Some(next)
             }
             Ok(Progress::Done) => {
                 self.found(desk);
-                self.note_beginning();
+                self.note_beginning(desk);
                 self.say(desk, screens);
                 self.settle_ended(desk, link, screens, next.len(), End::Whole);
                 self.end(desk, link, Why::Ended);
@@ -390,12 +390,18 @@ impl Source {
         };
         let is_news = !self.returning.has_left_quiet() && !self.leading.is_look();
         desk.reports.add_if(is_news, refused);
-        self.without_token(desk, link);
+        self.without_token(desk, link, false);
     }
 
     /// The others are asked with the token, and after that the mirror forgets it. Where the first
-    /// server refuses it a second time, it is asked for everything.
-    pub(crate) fn without_token<L: Link>(&mut self, desk: &mut Desk, link: &mut L)
+    /// server refuses it a second time, it is asked for everything. It may answer with another
+    /// commit instead.
+    pub(crate) fn without_token<L: Link>(
+        &mut self,
+        desk: &mut Desk,
+        link: &mut L,
+        has_another: bool,
+    )
         ensures left { WasLeft self.old self.new (L.exchanges link.old) (L.exchanges link.new) }
         ensures next { self.new.upstream.since ≡ asked_after_refusal self.old desk.old.time }
         // who refused the token counts, until each one has
@@ -413,11 +419,12 @@ impl Source {
             .answer(server, now.saturating_sub(self.opened));
         let back = self.leading.end_look();
         let is_other_log = self.leading.refuse(server, now);
+        let (failure, lack) = refusal(has_another);
         self.leave(link, now);
-        self.figures.refuse_token(now);
-        self.servers.fail(server, FollowFailure::TokenRefused, now);
+        self.figures.refuse_token(failure, now);
+        self.servers.fail(server, failure, now);
         self.figures.change(Following::Away, now);
-        self.leading.fail(server, Lack::TokenRefused, now);
+        self.leading.fail(server, lack, now);
         if is_other_log {
             self.leading.want_all();
             desk.reports.add(Report::OtherLog { server });
@@ -493,6 +500,15 @@ impl Source {
     fn is_found_news(&self) -> bool {
         let has_left = self.returning.has_left_quiet() || self.patience.is_again();
         !has_left && !self.leading.is_back(self.upstream.place())
+    }
+}
+
+/// How a server refuses our token: by its status, or with another commit there.
+fn refusal(has_another: bool) -> (FollowFailure, Lack) {
+    if has_another {
+        (FollowFailure::OtherCommit, Lack::OtherCommit)
+    } else {
+        (FollowFailure::TokenRefused, Lack::TokenRefused)
     }
 }
 

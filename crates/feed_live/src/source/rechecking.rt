@@ -87,6 +87,8 @@ pub(crate) struct Rechecking {
     asks_newest: bool,
     /// A server has another one, and nothing was published since then.
     is_doubted: bool,
+    /// Which server that was, until something was published.
+    doubted: Option<usize>,
 }
 
 impl Rechecking {
@@ -98,6 +100,7 @@ impl Rechecking {
           has_others = false;
           asks_newest = false;
           is_doubted = false;
+          doubted = None;
         } }
     {
         Rechecking {
@@ -107,6 +110,7 @@ impl Rechecking {
             has_others: false,
             asks_newest: false,
             is_doubted: false,
+            doubted: None,
         }
     }
 
@@ -120,6 +124,7 @@ impl Rechecking {
           has_others = false;
           asks_newest = false;
           is_doubted = self.old.is_doubted && not is_fresh;
+          doubted = self.old.doubted;
         } }
     {
         self.is_doubted = self.is_doubted && !is_fresh;
@@ -146,9 +151,15 @@ impl Rechecking {
 
     /// Something was published.
     pub(crate) fn trust(&mut self)
-        ensures { self.new ≡ record self.old { is_doubted = false } }
+        ensures { self.new ≡ record self.old { is_doubted = false; doubted = None } }
     {
         self.is_doubted = false;
+        self.doubted = None;
+    }
+
+    /// Whether the server of a place had another one, and nothing was published since then.
+    pub(crate) fn has_doubted(&self, place: usize) -> bool {
+        self.doubted == Some(place)
     }
 
     /// The server does not hold the token before the newest.
@@ -386,7 +397,8 @@ impl Source {
             desk.reports.add_if(!self.rechecking.is_doubted, forgot);
         }
         self.rechecking.is_doubted = true;
-        self.without_token(desk, link);
+        self.rechecking.doubted = Some(self.upstream.place());
+        self.without_token(desk, link, true);
     }
 
     /// Where the newest commit just came again, the server has what this relay has: the first one

@@ -152,6 +152,13 @@ impl Settling {
         self.was_alone = false;
     }
 
+    /// Each connection asks for everything from here on.
+    pub(crate) fn ask_all(&mut self)
+        ensures { self.new ≡ record self.old { is_always = true } }
+    {
+        self.is_always = true;
+    }
+
     /// A line came whole.
     pub(crate) fn count_line(&mut self)
         ensures { self.new ≡ record self.old { lines = later self.old.lines 1 } }
@@ -308,6 +315,7 @@ impl Source {
         self.settling.is_same = have_one_state(coming.node(), shown);
         if self.settling.is_same {
             self.is_heard = true;
+            self.note_left_out(desk);
         } else {
             let (kind, id) = differ_at(desk.alloc, coming.node(), shown);
             desk.reports.add(Report::Differs {
@@ -316,6 +324,30 @@ impl Source {
                 id,
             });
         }
+    }
+
+    /// A server that had another commit at our newest token, and sends that where it sends
+    /// everything, leaves commits out which a later one supersedes. So everything is asked for from
+    /// here on.
+    fn note_left_out(&mut self, desk: &mut Desk)
+        ensures same { SameSource self.old self.new }
+        ensures epoch { self.new.epoch ≡ self.old.epoch }
+        ensures heeds { HeedsTime self.old self.new desk.old.time desk.new.time }
+        ensures more { self.new.has_more ≡ self.old.has_more }
+        ensures exact { self.new ≡ record self.old {
+          settling = record self.old.settling { is_always = self.new.settling.is_always };
+        } }
+    {
+        let server = self.upstream.place();
+        let Some(token) = self.answers.shown.node().token() else {
+            return;
+        };
+        if self.settling.is_always || !self.rechecking.has_doubted(server) {
+            return;
+        }
+        self.settling.ask_all();
+        let token = Excerpt::of(token.text());
+        desk.reports.add(Report::LeavesOut { server, token });
     }
 
     /// When what comes afresh has settled, if nothing more comes until then.

@@ -26,18 +26,20 @@ impl Source {
         is_smaller && !self.goes_on()
     }
 
-    /// Reports that what comes is held back though it was quiet.
+    /// Reports that what comes is held back though it was quiet. It isn't any more once it has grown.
     pub(super) fn report_held(&mut self, desk: &mut Desk)
         ensures exact { self.new ≡ record self.old { figures = self.new.figures } }
         ensures time { desk.new.time ≡ desk.old.time }
     {
-        if self.figures.is_held || !self.has_published() || !self.is_smaller() {
+        let is_smaller = self.has_published() && self.is_smaller();
+        if !is_smaller {
+            self.figures.hold(false);
             return;
         }
-        if self.settling.calm_at() > desk.time {
+        if self.figures.is_held || self.settling.calm_at() > desk.time {
             return;
         }
-        self.figures.hold();
+        self.figures.hold(true);
         desk.reports.add(Report::Held {
             server: self.upstream.place(),
             time: self.settling.longer(),

@@ -2,6 +2,7 @@
 
 ghost use Rattle.std.specs.Prelude.{◌≡◌, ◌≢◌, ◌⊎◌, ◌&&◌, ◌||◌, ℕ, List, length, None, IfOk, false, true, not, is_some};
 ghost use Rattle.feed_live.specs.Afresh.{goes_on_from, has_come, is_at_shown};
+ghost use Rattle.feed_live.specs.Leading.{stands_alone};
 ghost use Rattle.feed_node.specs.Saved.{restored_from};
 
 use crate::source::{Reach, Source};
@@ -130,9 +131,11 @@ impl Source {
         if self.is_alone() {
             return Some(self.settle_alone(desk, link, screens, unread));
         }
+        let goes_on = self.goes_on();
         self.keep_screens();
         link.show_all(unread);
         self.show();
+        self.take_over(desk, goes_on);
         self.say(desk, screens);
         None
     }
@@ -155,6 +158,7 @@ impl Source {
         if self.show_alone(desk.alloc).is_err() {
             return Leaves::Memory;
         }
+        self.take_over(desk, false);
         self.say(desk, screens);
         Leaves::Again
     }
@@ -180,7 +184,19 @@ impl Source {
         let server = self.upstream.place();
         let time = self.figures.settle(desk.time);
         desk.reports.add(Report::Settled { server, time, way });
-        let goes_on = self.goes_on();
+    }
+
+    /// What came of a server that was asked for everything is shown now, and goes on from what was
+    /// or doesn't: that is known of the first one.
+    fn take_over(&mut self, desk: &mut Desk, goes_on: bool)
+        ensures same { SameSource self.old self.new }
+        ensures heeds { HeedsTime self.old self.new desk.old.time desk.new.time }
+        ensures more { self.new.has_more ≡ self.old.has_more }
+        ensures exact { self.new ≡ record self.old { leading = self.new.leading } }
+        ensures alone { self.new.leading.is_alone
+            ≡ stands_alone self.old.leading self.old.upstream.place goes_on }
+    {
+        let server = self.upstream.place();
         self.leading.take_all(server, goes_on);
         self.leading.show(desk, server);
     }
@@ -219,6 +235,7 @@ impl Source {
         }
         self.coming = None;
         self.settling.was_alone = true;
+        self.beginning.show_alone(alloc);
         Ok(())
     }
 
@@ -238,18 +255,20 @@ impl Source {
             .turn_to(place, self.answers.shown.change(), now);
     }
 
-    /// The server ignores the token that it was asked with: it is asked for everything, and that is
-    /// to settle. So is each server from here on.
+    /// The server ignores the token that it was asked with, or its tokens are no positions in what
+    /// it sends: it is asked for everything, and that is to settle. So is each server from here on.
     pub(crate) fn ignored<L: Link>(&mut self, desk: &mut Desk, link: &mut L)
         ensures left { WasLeft self.old self.new (L.exchanges link.old) (L.exchanges link.new) }
         ensures at_once { self.new.upstream.since ≡ desk.old.time }
         ensures heeds { HeedsTime self.old self.new desk.old.time desk.new.time }
         ensures calls { L.calls link.new ≡ L.calls link.old }
     {
-        desk.reports.add(Report::Ignores {
-            server: self.upstream.place(),
+        let server = self.upstream.place();
+        desk.reports.add(match self.beginning.known_again() {
+            Some(token) => Report::NoPositions { server, token },
+            None => Report::Ignores { server },
         });
-        self.settling.is_always = true;
+        self.settling.ask_all();
         self.ask_again(link, desk.time);
     }
 }
