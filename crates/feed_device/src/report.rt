@@ -250,9 +250,9 @@ pub enum Report {
     Ignores {
         server: usize,
     },
-    /// The tokens of a server are no positions in what it sends, as those of a dump whose lines have
-    /// the tokens of their events: this one came behind a later one, or came again after a token
-    /// that it was sent before. Everything is asked for each time.
+    /// The tokens of a server are no positions in what it sends, as those of a dump whose lines
+    /// have the tokens of their events: this one came behind a later one, or again after one that
+    /// it was sent before. Everything is asked for each time.
     NoPositions {
         server: usize,
         token: Excerpt,

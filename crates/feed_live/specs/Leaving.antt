@@ -321,7 +321,6 @@ IsToMove source idle now =
 abbrev pub IsAtRest : Source → Type 0
 IsAtRest source = (source.has_more ≡ false) × (source.reach ≢ Reads)
 
-
 -- It is neither late nor silent, nor is it to be left for a look at the first one, or for having
 -- nothing new, nor to be asked with the newest token.
 abbrev pub IsToStay : Source → ℕ → ℕ → Type 0

@@ -140,8 +140,8 @@ impl Beginning {
         self.first.is_some()
     }
 
-    /// So many bytes of what came are taken. What comes first is this, of which some was read ahead.
-    /// Whether the server ignores our token, or its tokens are no positions.
+    /// This is to be taken, of which some was read ahead. Whether the server ignores our token, or
+    /// its tokens are no positions.
     pub(crate) fn is_replay(&mut self, alloc: Global, piece: &[u8], shown: &Node) -> bool {
         let mut rest = piece.get(self.ahead..).unwrap_or(&[]);
         while !rest.is_empty() && self.follows.is_some() {
@@ -175,9 +175,7 @@ impl Beginning {
         }
         let is_first = self.tokens == 0;
         self.tokens = self.tokens.saturating_add(1);
-        let is_newest = shown
-            .token()
-            .is_some_and(|newest| newest.text() == token);
+        let is_newest = shown.token().is_some_and(|newest| newest.text() == token);
         let is_all = is_first && begins_again(alloc, &self.first, follows, shown);
         let is_replay = !is_newest && (is_all || self.positions.came_before(token));
         if self.tokens >= LOOKED_AT || !self.positions.has_shown() {

@@ -26,7 +26,8 @@ impl Source {
         is_smaller && !self.goes_on()
     }
 
-    /// Reports that what comes is held back though it was quiet. It isn't any more once it has grown.
+    /// Reports that what comes is held back though it was quiet. It isn't any more once it has
+    /// grown.
     pub(super) fn report_held(&mut self, desk: &mut Desk)
         ensures exact { self.new ≡ record self.old { figures = self.new.figures } }
         ensures time { desk.new.time ≡ desk.old.time }
