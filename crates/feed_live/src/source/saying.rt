@@ -9,7 +9,7 @@ use feed_screens::Screens;
 
 impl Source {
     ghost use Rattle.feed_live.specs.Leaving.{HasPublishedAt};
-    ghost use Rattle.feed_node.specs.States.{published_token};
+    ghost use Rattle.feed_node.specs.States.{former_token, published_token};
     ghost use Rattle.feed_live.specs.Times.{HeedsTime, SameTimes};
     ghost use Rattle.feed_live.specs.Relaying.{SameSource};
     ghost use Rattle.feed_live.specs.Relaying.{SameWaiting};
@@ -37,6 +37,9 @@ impl Source {
             → screens.old.hub.broadcast.told ≡ published_token self.old.answers.shown.mirror.node
             → SameWaiting self.old self.new × (self.new.is_heard ≡ self.old.is_heard) }
         ensures more { self.new.has_more ≡ self.old.has_more }
+        // one that stands alone does until another commit is published
+        ensures alone { former_token self.old.answers.shown.mirror.node ≡ None
+            → self.new.leading.is_alone ≡ self.old.leading.is_alone }
     {
         self.report_twice(desk);
         if self.coming.is_some() {
@@ -66,6 +69,7 @@ impl Source {
         // else nothing ends
         ensures stays { self.old.is_fresh ≡ false
             → (self.new ≡ self.old) × (screens.new ≡ screens.old) }
+        ensures leading { self.new.leading ≡ self.old.leading }
         ensures times { SameTimes self.old self.new }
         ensures more { self.new.has_more ≡ self.old.has_more }
     {

@@ -302,6 +302,7 @@ impl Source {
         ensures epoch { self.new.epoch ≡ self.old.epoch }
         ensures heeds { HeedsTime self.old self.new desk.old.time desk.new.time }
         ensures compares { IfSome self.old.coming (Compares self.old self.new) }
+        ensures leading { self.new.leading ≡ self.old.leading }
         ensures more { self.new.has_more ≡ self.old.has_more }
     {
         let Some(coming) = &self.coming else {

@@ -57,6 +57,7 @@ impl Source {
         ensures more { self.new.has_more ≡ self.old.has_more }
         ensures time { desk.new.time ≡ desk.old.time }
         ensures only { result ≡ true → wants_all self.old ≡ true }
+        ensures keeps { result ≡ false → self.new ≡ self.old }
     {
         let server = self.upstream.place();
         if !self.leading.wants_all(server) {

@@ -1,6 +1,6 @@
 //! What came afresh is shown, once it has settled.
 
-ghost use Rattle.std.specs.Prelude.{◌≡◌, ◌≢◌, ◌⊎◌, ◌&&◌, ◌||◌, ℕ, List, length, None, IfOk, false, true, not, is_some};
+ghost use Rattle.std.specs.Prelude.{◌≡◌, ◌≢◌, ◌⊎◌, ◌&&◌, ◌||◌, ℕ, List, length, None, Some, IfOk, OnOk, IfSome, false, true, not, is_some};
 ghost use Rattle.feed_live.specs.Afresh.{goes_on_from, has_come, is_at_shown};
 ghost use Rattle.feed_live.specs.Leading.{stands_alone};
 ghost use Rattle.feed_node.specs.Saved.{restored_from};
@@ -40,6 +40,7 @@ impl Source {
     ghost use Rattle.feed_live.specs.Times.{HeedsTime, SameTimes};
     ghost use Rattle.feed_live.specs.Relaying.{StillFollows, StillShows, SameSource, WasLeft, IsNowShown, ShowsAlone, counted_within_turn, within_turn};
     ghost use Rattle.feed_live.specs.declared.source.Reach.TheVariants.{Reads as Read};
+    ghost use Rattle.feed_live.specs.declared.source.settling.showing.Leaves.TheVariants.{Again as Asked};
 
     /// Shows what came afresh, where that has settled by now.
     pub(crate) fn settle_due<L: Link>(
@@ -118,6 +119,9 @@ impl Source {
             (within_turn (L.exchanges link.new) self.new left screens.new) }
         ensures rest { result ≡ None → self.new.rest.items ≡ self.old.rest.items }
         ensures more { result ≡ None → self.new.has_more ≡ self.old.has_more }
+        // a first server's other log that is shown stands alone
+        ensures alone { result ≡ Some Asked → self.new.leading.is_alone
+            ≡ stands_alone self.old.leading self.old.upstream.place false }
         ensures heeds { HeedsTime self.old self.new desk.old.time desk.new.time }
         ensures calls { L.calls link.new ≡ L.calls link.old }
     {
@@ -151,6 +155,9 @@ impl Source {
         ensures shows { StillShows
             (counted_within_turn (L.exchanges link.old) self.old unread screens.old)
             self.new (L.exchanges link.new) screens.new }
+        // that a first server's other log stands alone is noted once it is shown
+        ensures alone { result ≡ Asked → self.old.coming ≢ None → self.new.leading.is_alone
+            ≡ stands_alone self.old.leading self.old.upstream.place false }
         ensures heeds { HeedsTime self.old self.new desk.old.time desk.new.time }
         ensures calls { L.calls link.new ≡ L.calls link.old }
     {
@@ -227,7 +234,12 @@ impl Source {
     /// What came afresh is shown at its own token alone, and nothing follows.
     fn show_alone(&mut self, alloc: Global) -> Result<(), AllocError>
         ensures shows { ShowsAlone self.old self.new }
+        ensures restores { OnOk result (IfSome self.old.coming (λ coming.
+            self.new.answers.shown.mirror
+            ≡ restored_from coming.limits coming.node.published)) }
         ensures times { SameTimes self.old self.new }
+        ensures leading { (self.new.leading ≡ self.old.leading)
+            × (self.new.upstream.place ≡ self.old.upstream.place) }
     {
         if let Some(coming) = &self.coming {
             let alone = alone(alloc, coming)?;
