@@ -17,7 +17,7 @@ use std::alloc::{AllocError, Global};
 const LEAST: usize = 8;
 
 /// How many tokens are looked at of what comes after ours.
-const LOOKED_AT: usize = 256;
+const LOOKED_AT: usize = 64;
 
 /// How many bytes of a line of a head are looked at.
 const LONGEST_FIELD: usize = 2_048;
@@ -143,6 +143,9 @@ impl Beginning {
     /// This is to be taken, of which some was read ahead. Whether the server ignores our token, or
     /// its tokens are no positions.
     pub(crate) fn is_replay(&mut self, alloc: Global, piece: &[u8], shown: &Node) -> bool {
+        if self.follows.is_none() {
+            return false;
+        }
         let mut rest = piece.get(self.ahead..).unwrap_or(&[]);
         while !rest.is_empty() && self.follows.is_some() {
             let (line, next) = line_or_part(rest);
@@ -176,8 +179,9 @@ impl Beginning {
         let is_first = self.tokens == 0;
         self.tokens = self.tokens.saturating_add(1);
         let is_newest = shown.token().is_some_and(|newest| newest.text() == token);
-        let is_all = is_first && begins_again(alloc, &self.first, follows, shown);
-        let is_replay = !is_newest && (is_all || self.positions.came_before(token));
+        let is_all = is_first && !is_newest && begins_again(alloc, &self.first, follows, shown);
+        // A server may begin further back, with commits that are held.
+        let is_replay = is_all || !shown.holds(token) && self.positions.came_before(token);
         if self.tokens >= LOOKED_AT || !self.positions.has_shown() {
             self.follows = None;
         }
@@ -288,8 +292,8 @@ impl Source {
         ensures same { SameSource self.old self.new }
         ensures times { SameTimes self.old self.new }
     {
-        let (line, _) = line_or_part(piece);
         if self.body_since.is_none() {
+            let (line, _) = line_or_part(piece);
             self.beginning.take_head(line);
         }
         self.beginning
