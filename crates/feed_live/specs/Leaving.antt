@@ -355,13 +355,16 @@ is_asked_again source why =
     is_silence why && is_some source.body_since && is_none source.rechecking.again
     && (is_none source.coming || is_at_shown source)
 
+-- the next one is asked, or the same one again
+pub record LeavesFor (why : Why) (old new : Source) (now : ℕ) : Type 0 where
+  pub again : is_asked_again old why ≡ true → AsksAgain old new now
+  pub next : is_asked_again old why ≡ false → GoesOnTo old new now
+
 -- One that is late or silent is left, and the next one is asked, or the same one again.
 abbrev pub LeavesLate : Source → Source → ℕ → ℕ → Type 0
 LeavesLate old new idle now =
-    (why : Why) → old.reach ≢ Away → why_left old idle now ≡ Some why
-    → (new.reach ≡ Away) × (new.has_more ≡ false)
-    × (is_asked_again old why ≡ true → AsksAgain old new now)
-    × (is_asked_again old why ≡ false → GoesOnTo old new now)
+    IsToLeave old idle now → (new.reach ≡ Away) × (new.has_more ≡ false)
+    × ((why : Why) → why_left old idle now ≡ Some why → LeavesFor why old new now)
 
 -- ---- when a relay looks
 

@@ -3,6 +3,8 @@
 //! beside the mirror that is shown, before anything of it is. The bytes may be cut anywhere, and
 //! framed in chunks.
 
+ghost use Rattle.std.specs.Prelude.{◌≡◌};
+
 use crate::source::Source;
 use crate::source::positions::Positions;
 use crate::source::reading::{line_or_part, location_of};
@@ -147,7 +149,10 @@ impl Beginning {
             return false;
         }
         let mut rest = piece.get(self.ahead..).unwrap_or(&[]);
-        while !rest.is_empty() && self.follows.is_some() {
+        for _ in 0..piece.len() {
+            if rest.is_empty() || self.follows.is_none() {
+                break;
+            }
             let (line, next) = line_or_part(rest);
             if self.takes_back(alloc, line, shown) {
                 return true;
@@ -272,17 +277,16 @@ impl Source {
         ensures times { SameTimes self.old self.new }
         ensures time { desk.new.time ≡ desk.old.time }
     {
+        let is_always = self.is_always_fresh();
         let Some(coming) = &self.coming else {
             return;
         };
-        if !self.beginning.note(coming) || self.is_always_fresh() {
+        if !self.beginning.note(coming) || is_always {
             return;
         }
-        let token = coming.since().unwrap_or("");
-        desk.reports.add(Report::NoPositions {
-            server: self.upstream.place(),
-            token: Excerpt::of(token),
-        });
+        let token = Excerpt::of(coming.since().unwrap_or(""));
+        let server = self.upstream.place();
+        desk.reports.add(Report::NoPositions { server, token });
         self.settling.ask_all();
     }
 

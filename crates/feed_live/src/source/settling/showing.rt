@@ -185,6 +185,7 @@ impl Source {
 
     fn report_settled(&mut self, desk: &mut Desk, way: CameSo)
         ensures same { SameSource self.old self.new }
+        ensures exact { self.new ≡ record self.old { figures = self.new.figures } }
         ensures heeds { HeedsTime self.old self.new desk.old.time desk.new.time }
         ensures more { self.new.has_more ≡ self.old.has_more }
     {

@@ -110,7 +110,7 @@ pub returns-in-Ok-Head-clause-heeds : goal.returns-in-Ok-Head-clause-heeds
 returns-in-Ok-Head-clause-heeds g c = c.push.ensures.heeds
 
 pub returns-in-Ok-Done-clause-heeds : goal.returns-in-Ok-Done-clause-heeds
-returns-in-Ok-Done-clause-heeds g c = heeds_then c.end.ensures.heeds (heeds_then c.settle_ended.ensures.heeds (heeds_then c.say-in-Ok-Done.ensures.heeds (heeds_then (heeds_same _ c.note_beginning-in-Ok-Done.ensures.times) (heeds_then c.found-in-Ok-Done.ensures.heeds c.push.ensures.heeds))))
+returns-in-Ok-Done-clause-heeds g c = heeds_then c.end.ensures.heeds (heeds_then c.settle_ended.ensures.heeds (heeds_then c.say-in-Ok-Done.ensures.heeds (heeds_then (heeds_until c.note_beginning-in-Ok-Done.ensures.time (heeds_same _ c.note_beginning-in-Ok-Done.ensures.times)) (heeds_then c.found-in-Ok-Done.ensures.heeds c.push.ensures.heeds))))
 
 pub returns-in-Ok-Done-clause-calls : goal.returns-in-Ok-Done-clause-calls
 returns-in-Ok-Done-clause-calls g c = c.end.ensures.calls ∙ c.settle_ended.ensures.calls
