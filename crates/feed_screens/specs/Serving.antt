@@ -17,7 +17,7 @@ use Rattle.feed_hub.specs.declared.seats.Seat.TheVariants.{Asks, Watches}
 use Rattle.feed_hub.specs.declared.screen.Refill.{Refill}
 use Rattle.feed_hub.specs.Hub.{IsSeated, ChangesOnly, Refills, prefix_at}
 use Rattle.feed_hub.specs.Steps.{taken}
-use Rattle.feed_hub.specs.Backlog.{Backlog}
+use Rattle.feed_hub.specs.Backlog.{Backlog, end_of}
 use Rattle.feed_hub.specs.Screen.{IsServed}
 use Rattle.feed_hub.specs.Seats.{seat_at, IsOverSeat, Watched}
 use Rattle.feed_screens.specs.declared.conn.Conn.{Conn}
@@ -308,6 +308,12 @@ abbrev pub SaysAll : Screens → NodeState → ℕ → Type 0
 SaysAll screens node now =
     (screens.hub.broadcast.told ≡ published_token node)
     ⊎ ((at : ℕ) × (screens.saying.waits ≡ Some at) × (at ≤ now + 1000))
+
+-- What is left to be said has to wait: memory ran out, or more than a window was said since the log
+-- was trimmed last.
+abbrev pub HasToWait : Screens → Type 0
+HasToWait screens = (screens.saying.is_short ≡ true)
+    ⊎ (screens.hub.window < end_of screens.hub.broadcast.log - screens.hub.turn.end)
 
 -- so long at most, where it waits
 abbrev pub WaitsBriefly : Option ℕ → ℕ → Type 0

@@ -1,13 +1,15 @@
 //! What the node has more is said to all screens.
 
-ghost use Rattle.std.specs.Prelude.{◌≡◌, ℕ, [], false, ◌≢◌, ◌↔◌, ◌<◌, ◌≤◌, ◌-◌, ◌^◌, min, None, IfSome, IsTrue, true, if◌then◌else◌};
+ghost use Rattle.std.specs.Prelude.{◌≡◌, ℕ, [], false, ◌≢◌, ◌⊎◌, ◌↔◌, ◌<◌, ◌≤◌, ◌-◌, ◌^◌, min, None, IfSome, IsTrue, true, if◌then◌else◌};
 ghost use Rattle.slab.specs.Slab.{get, slab_len};
 ghost use Rattle.feed_node.specs.States.{published_token};
-ghost use Rattle.feed_hub.specs.Hub.{prefix_at};
-ghost use Rattle.feed_hub.specs.Seats.{KeepsThose, IsOnTime};
+ghost use Rattle.feed_hub.specs.Backlog.{end_of, oldest_in};
+ghost use Rattle.feed_hub.specs.Broadcast.{SaysCommit};
+ghost use Rattle.feed_hub.specs.Hub.{may_lack, prefix_at};
+ghost use Rattle.feed_hub.specs.Seats.{KeepsThose, IsOnTime, IsSeatNotBehind};
 ghost use Rattle.feed_device.specs.Calls.{CalledOnce, NotCalled};
 ghost use Rattle.feed_screens.specs.Serving.{StillServesFrom, StillServes, StillStand, SameSeating};
-ghost use Rattle.feed_screens.specs.Serving.{AllEnd, IsAlone, IsWritable, MakesDue, SaysAll, WaitsBriefly, idles_at};
+ghost use Rattle.feed_screens.specs.Serving.{AllEnd, HasToWait, IsAlone, IsWritable, MakesDue, SaysAll, WaitsBriefly, idles_at};
 ghost use Rattle.feed_screens.specs.Waiting.{SameToDo, StaysNoted, AreReady, MaySay};
 ghost use Rattle.feed_screens.specs.Counting.{none_counted, IsReportOf};
 
@@ -178,6 +180,13 @@ impl Screens {
         ensures to_do { SameToDo self.old self.new }
         ensures due { self.new.saying.is_due ≡ self.old.saying.is_due }
         ensures told { self.new.hub.broadcast.told ≡ self.old.hub.broadcast.told }
+        // once a turn it is done: who is too far behind is cut, and a window more may be said
+        ensures trimmed { self.new.saying.is_trimmed ≡ true }
+        ensures cuts { self.old.saying.is_trimmed ≡ false → KeepsThose
+            (IsSeatNotBehind (oldest_in (may_lack self.old.hub) self.old.hub.broadcast.log))
+            self.old.hub.seats.slab self.new.hub.seats.slab }
+        ensures turn { self.old.saying.is_trimmed ≡ false
+            → self.new.hub.turn.end ≡ end_of self.old.hub.broadcast.log }
     {
         if !self.saying.is_trimmed {
             self.hub.trim();
@@ -197,6 +206,9 @@ impl Screens {
         ensures to_do { SameToDo self.old self.new }
         // where somebody is there, and something was said, all are to be written to
         ensures due { slab_len self.old.conns ≢ 0 → MakesDue self.old self.new }
+        // where there is something to say, the log was trimmed in this turn
+        ensures trims { self.old.hub.broadcast.told ≢ published_token node.now.shown
+            → self.new.saying.is_trimmed ≡ true }
     {
         self.saying.waits = None;
         if self.is_at(node) {
@@ -219,6 +231,7 @@ impl Screens {
         // where somebody is there nothing is done
         ensures stays { slab_len self.old.conns ≢ 0 → self.new ≡ self.old }
         ensures to_do { SameToDo self.old self.new }
+        ensures trimmed { self.new.saying.is_trimmed ≡ self.old.saying.is_trimmed }
         ensures due { self.new.saying.is_due ≡ self.old.saying.is_due }
     {
         if !self.conns.is_empty() {
@@ -236,6 +249,7 @@ impl Screens {
             → WaitsBriefly self.new.saying.waits desk.now.time }
         ensures to_do { SameToDo self.old self.new }
         ensures due { MakesDue self.old self.new }
+        ensures trimmed { self.new.saying.is_trimmed ≡ self.old.saying.is_trimmed }
     {
         for _ in 0..node.kept().saturating_add(2) {
             if !self.say_one(desk, node) {
@@ -252,6 +266,7 @@ impl Screens {
         ensures most { self.new.hub.most ≡ self.old.hub.most }
         ensures to_do { SameToDo self.old self.new }
         ensures due { self.new.saying.is_due ≡ self.old.saying.is_due }
+        ensures trimmed { self.new.saying.is_trimmed ≡ self.old.saying.is_trimmed }
     {
         if self.saying.waits.is_none() && !self.is_at(node) {
             self.saying.waits = Some(now);
@@ -268,6 +283,14 @@ impl Screens {
         ensures goes_on { result ≡ true → self.new.saying.waits ≡ self.old.saying.waits }
         ensures to_do { SameToDo self.old self.new }
         ensures due { MakesDue self.old self.new }
+        ensures trimmed { self.new.saying.is_trimmed ≡ self.old.saying.is_trimmed }
+        // a commit was said, or the log is at no token
+        ensures moves { result ≡ true → (self.new.hub.broadcast.told ≡ None)
+            ⊎ SaysCommit node.now.shown self.old.hub.broadcast self.new.hub.broadcast }
+        // else all was, or what is left has to wait
+        ensures why { result ≡ false
+            → (self.new.hub.broadcast.told ≡ published_token node.now.shown)
+            ⊎ HasToWait self.new }
     {
         self.saying.is_short = false;
         match self.hub.say_next(desk.alloc, node) {
@@ -299,6 +322,7 @@ impl Screens {
         ensures due { self.new.saying.is_due ≡ true }
         ensures waits { self.new.saying.waits ≡ self.old.saying.waits }
         ensures to_do { SameToDo self.old self.new }
+        ensures trimmed { self.new.saying.is_trimmed ≡ self.old.saying.is_trimmed }
     {
         self.saying.is_due = true;
         self.saying.spoke = now;
@@ -308,9 +332,11 @@ impl Screens {
     pub fn end_feeds(&mut self, desk: &Desk)
         ensures serving { StillStand self.old self.new }
         ensures ended { AllEnd self.new.hub }
+        ensures told { self.new.hub.broadcast.told ≡ None }
         ensures most { self.new.hub.most ≡ self.old.hub.most }
         ensures waits { self.new.saying.waits ≡ self.old.saying.waits }
         ensures to_do { SameToDo self.old self.new }
+        ensures trimmed { self.new.saying.is_trimmed ≡ self.old.saying.is_trimmed }
         // all are to be written to
         ensures due { self.new.saying.is_due ≡ true }
     {

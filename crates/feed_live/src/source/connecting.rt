@@ -1,94 +1,26 @@
-//! The connection to a server: it is begun and left.
+//! The connection to a server is begun.
 
-ghost use Rattle.std.specs.Prelude.{◌≡◌, ◌≢◌, ◌<◌, ◌⊎◌, ◌+◌, ◌%◌, ◌||◌, ◌&&◌, min, Result, None, Some, Ok, Err, IfOk, IfSome, IsSome, false, true, length, not, is_some};
+ghost use Rattle.std.specs.Prelude.{◌≡◌, ◌≢◌, ◌<◌, ◌⊎◌, ◌||◌, None, Some, Err, IfOk, IfSome, IsSome, false, true, length, is_none};
 ghost use Rattle.feed_device.specs.Calls.{HasBegun};
 ghost use Rattle.feed_node.specs.States.{published_token};
 
 use crate::source::rechecking::token_for;
 use crate::source::settling::{begin_shown, followed_of};
 use crate::source::{Reach, Source};
-use crate::times::{CONNECT_TIME, STOOD_LONG};
 use feed_answer::request_text_as;
-use feed_device::{Desk, Excerpt, Lack, Link, Report, Why};
-use feed_figures::FollowFailure;
-use feed_hub::FIRST_PAUSE;
+use feed_device::{Desk, Link, Why};
 use feed_node::Mirror;
 use feed_screens::Screens;
 use std::alloc::{AllocError, Global};
 
 impl Source {
     ghost use Rattle.feed_live.specs.Calling.{ReadsAsBefore};
-    ghost use Rattle.feed_live.specs.Times.{HeedsTime, KeepsTimes, SameTimes};
-    ghost use Rattle.feed_live.specs.Relaying.{StillFollows, SameSource, SameWaiting, WasLeft, GoesOnTo, IsToConnect, RestsAway, servers_of, within_turn};
+    ghost use Rattle.feed_live.specs.Times.{KeepsTimes};
+    ghost use Rattle.feed_live.specs.Relaying.{StillFollows, SameSource, SameWaiting, GoesOnTo, IsToConnect, RestsAway, followed_by, servers_of, within_turn};
     ghost use Rattle.feed_live.specs.Upstream.{IsRequestOf, IsRequestWith, asked_with};
-    ghost use Rattle.feed_live.specs.Leaving.{AsksAgain, LooksAtFirst, after_loss, after_quiet, connect_time, has_answered, has_left_quiet, heard_time, is_asked_again, is_end, is_passed_over, is_past, late_time, look_at, newest_time, quiet_at, response_time, stood_long, why_late, why_left, LeavesLate, IsToLeave, IsToMove, IsToStay, IsAtRest, ConnectsTo};
+    ghost use Rattle.feed_live.specs.Leaving.{heard_time, is_passed_over, is_past, IsToLeave, IsToMove, IsToStay, IsAtRest, ConnectsTo};
     ghost use Rattle.feed_live.specs.declared.source.Reach.TheVariants.{Away, Connects as Connecting, Reads as Read};
     ghost use Rattle.feed_screens.specs.declared.screens.Screens.{Screens};
-
-    /// When a server is late: it does not take the connection, or does not answer.
-    pub(crate) fn late_at(&self) -> Option<u64>
-        ensures { result ≡ late_time self.now }
-    {
-        match self.reach {
-            Reach::Away => None,
-            Reach::Connects(since) => Some(since.saturating_add(self.connect_time())),
-            _ => {
-                if self.has_answered() {
-                    None
-                } else {
-                    Some(self.opened.saturating_add(self.response_time()))
-                }
-            }
-        }
-    }
-
-    /// Whether the server has answered: the head came. Of a first one that is only looked at the
-    /// newest commit came again, too, where that was asked for; of one that was asked for
-    /// everything, a line.
-    fn has_answered(&self) -> bool
-        ensures { result ≡ has_answered self.now }
-    {
-        let awaits_newest = self.leading.is_look() && self.rechecking.is_going();
-        let lacks_all = self.leading.wants_all(self.upstream.place()) && self.settling.lines() == 0;
-        self.body_since.is_some() && !awaits_newest && !lacks_all
-    }
-
-    /// How long a server may take to answer: not long where it is the first one, and is only looked
-    /// at, or asked again since its feed ended.
-    fn response_time(&self) -> u64
-        ensures { result ≡ response_time self.now }
-    {
-        let is_first = self.leading.is_first(self.upstream.place());
-        if self.leading.is_look() || self.patience.is_again() && is_first {
-            self.leading.look_time()
-        } else {
-            self.patience.time()
-        }
-    }
-
-    /// Why a server is late.
-    fn why_late(&self) -> Why
-        ensures { result ≡ why_late self.now.reach }
-    {
-        match self.reach {
-            Reach::Connects(_) => Why::Late,
-            _ => Why::NoAnswer,
-        }
-    }
-
-    /// How long a server may take to take a connection: not long where another one was left for it
-    /// that did not fail, or is followed else, or where it is asked again since its feed ended: its
-    /// machine may be gone.
-    fn connect_time(&self) -> u64
-        ensures { result ≡ connect_time self.now }
-    {
-        let has_left = self.returning.has_left_quiet();
-        if has_left || self.patience.is_again() || self.leading.is_look() {
-            CONNECT_TIME / 5
-        } else {
-            CONNECT_TIME
-        }
-    }
 
     /// Leaves a server that is late, silent or has nothing new for long, and begins to connect
     /// where that is due.
@@ -131,104 +63,6 @@ impl Source {
         self.hear_quiet(desk);
         if self.reach == Reach::Away && self.upstream.is_due(desk.time) {
             self.connect(desk, link);
-        }
-    }
-
-    /// Leaves a server that is late or silent, or has nothing new for long.
-    fn leave_due<L: Link>(&mut self, desk: &mut Desk, link: &mut L, idle: u64)
-        ensures follows { (screens : Screens) → StillFollows
-            (within_turn (L.exchanges link.old) self.old self.old.rest.items screens)
-            (within_turn (L.exchanges link.new) self.new self.new.rest.items screens) }
-        // none is left where there is none
-        ensures away { self.old.reach ≡ Away → (self.new ≡ self.old)
-            × (L.calls link.new ≡ L.calls link.old) × (desk.new.time ≡ desk.old.time) }
-        // one that is late or silent is left, and the next one is asked; or the same one again, if
-        // it had answered and is only silent
-        ensures leaves { LeavesLate self.old self.new idle desk.old.time }
-        // one that is neither, and not to be left for anything else, is followed on
-        ensures stays { IsToStay self.old idle desk.old.time → self.new ≡ self.old }
-        // one that is followed in place of the first one is left for a look at that
-        ensures looks { self.old.reach ≢ Away → why_left self.old idle desk.old.time ≡ None
-            → is_past (look_at self.old self.old.reach) desk.old.time ≡ true
-            → (self.new.reach ≡ Away) × LooksAtFirst self.old self.new desk.old.time }
-        // one that has nothing new for long is left, and the next one is asked at once
-        ensures quiet { self.old.reach ≢ Away → why_left self.old idle desk.old.time ≡ None
-            → is_past (look_at self.old self.old.reach) desk.old.time ≡ false
-            → is_past (quiet_at self.old self.old.reach) desk.old.time ≡ true
-            → (self.new.reach ≡ Away) × (self.new.upstream.since ≡ desk.old.time)
-            × (self.new.upstream.place ≡ after_quiet self.old % self.old.upstream.places) }
-        // one that was asked for the newest commit again, and sent nothing of it, is asked again
-        ensures newest { self.old.reach ≢ Away → why_left self.old idle desk.old.time ≡ None
-            → is_past (look_at self.old self.old.reach) desk.old.time ≡ false
-            → is_past (quiet_at self.old self.old.reach) desk.old.time ≡ false
-            → is_past (newest_time self.old) desk.old.time ≡ true
-            → (self.new.reach ≡ Away) × (self.new.upstream.since ≡ desk.old.time) }
-        ensures moves { IsToMove self.old idle desk.old.time
-            → (self.new.reach ≡ Away) × (self.new.has_more ≡ false) }
-        ensures calls { L.calls link.new ≡ L.calls link.old }
-        ensures reads { ReadsAsBefore self.old self.new }
-        ensures heeds { HeedsTime self.old self.new desk.old.time desk.new.time }
-        ensures refused { self.new.upstream.refused ≡ self.old.upstream.refused }
-    {
-        if self.reach == Reach::Away {
-            return;
-        }
-        match self.leaves(idle, desk.time) {
-            Some(why) => self.leave_for(desk, link, why),
-            None => {
-                if self.is_to_look(desk.time) {
-                    self.look(link, desk.time);
-                } else if self.is_to_leave_quiet(desk.time) {
-                    self.leave_quiet(desk, link);
-                } else if self.is_to_ask_newest(desk.time) {
-                    self.ask_newest(link, desk.time);
-                }
-            }
-        }
-    }
-
-    /// A server that is late or silent is left. One that had answered, and is only silent, is asked
-    /// again at once: it may send no line feeds while nothing happens.
-    fn leave_for<L: Link>(&mut self, desk: &mut Desk, link: &mut L, why: Why)
-        ensures left { WasLeft self.old self.new (L.exchanges link.old) (L.exchanges link.new) }
-        ensures calls { L.calls link.new ≡ L.calls link.old }
-        ensures again { is_asked_again self.old why ≡ true
-            → AsksAgain self.old self.new desk.old.time }
-        ensures next { is_asked_again self.old why ≡ false
-            → GoesOnTo self.old self.new desk.old.time }
-        ensures rests { self.new.has_more ≡ false }
-        ensures heeds { HeedsTime self.old self.new desk.old.time desk.new.time }
-        ensures refused { self.new.upstream.refused ≡ self.old.upstream.refused }
-    {
-        if self.is_asked_again(why) {
-            self.end_well(desk, link, why);
-        } else {
-            self.lost(desk, link, why);
-        }
-    }
-
-    /// Whether a server that is left for this is asked again at once: it is silent, but it had
-    /// answered, with its newest commit where that was asked for, and nothing of it is yet to
-    /// settle.
-    fn is_asked_again(&self, why: Why) -> bool
-        ensures { result ≡ is_asked_again self.now why }
-    {
-        let is_over = self.coming.is_none() || self.is_at_shown();
-        let has_answered = self.body_since.is_some() && !self.rechecking.is_going();
-        matches!(why, Why::Silent) && has_answered && is_over
-    }
-
-    /// Why a server is to be left now, if it is.
-    fn leaves(&self, idle: u64, now: u64) -> Option<Why>
-        ensures { result ≡ why_left self.now idle now }
-    {
-        if self.upstream.is_silent(idle, now) {
-            return Some(Why::Silent);
-        }
-        if self.late_at()? <= now {
-            Some(self.why_late())
-        } else {
-            None
         }
     }
 
@@ -276,6 +110,9 @@ impl Source {
         ensures opened { self.old.reach ≡ Away → (self.new.reach ≡ Away)
             ⊎ ((self.new.reach ≡ Connecting desk.old.time) × (self.new.opened ≡ desk.old.time)
             × (self.new.upstream.since ≡ desk.old.time)) }
+        // whether it asks for everything is noted: what it publishes then is no news of the former
+        ensures fresh { self.old.reach ≡ Away → (self.new.reach ≡ Away)
+            ⊎ (self.new.is_fresh ≡ is_none (followed_by self.new).since) }
         ensures keeps { KeepsTimes self.old self.new desk.old.time desk.new.time }
         ensures refused { self.new.upstream.refused ≡ self.old.upstream.refused }
         ensures heard { self.old.body_since ≡ None → self.new.is_heard ≡ self.old.is_heard }
@@ -374,164 +211,6 @@ impl Source {
         )?;
         Ok(Some(text))
     }
-
-    /// The server is left, and the next one is asked: after a pause where each of them failed.
-    pub(crate) fn lost<L: Link>(&mut self, desk: &mut Desk, link: &mut L, why: Why)
-        ensures left { WasLeft self.old self.new (L.exchanges link.old) (L.exchanges link.new) }
-        ensures calls { L.calls link.new ≡ L.calls link.old }
-        ensures next { GoesOnTo self.old self.new desk.old.time }
-        ensures rests { self.new.has_more ≡ false }
-        ensures heeds { HeedsTime self.old self.new desk.old.time desk.new.time }
-        // one that ended its answer sent all that it has, and counts as heard
-        ensures heard { self.new.is_heard
-            ≡ (self.old.is_heard || is_end why && is_some (heard_time self.old)) }
-        ensures returning { self.new.returning ≡ after_loss self.old.body_since self.old.returning }
-        ensures refused { self.new.upstream.refused ≡ self.old.upstream.refused }
-    {
-        let server = self.upstream.place();
-        let back = self.leading.end_look();
-        self.patience.lose(server, why, back.is_some());
-        let is_reported = self.lose() && back.is_none();
-        self.rechecking.lose();
-        self.hear_end(why);
-        self.report_unsettled(desk);
-        let is_tls = is_reported && self.beginning.is_tls();
-        self.leave(link, desk.time);
-        self.leading.fail(server, Lack::Left(why), desk.time);
-        self.figures.lose(why, desk.time);
-        self.servers
-            .fail(server, FollowFailure::Left(why), desk.time);
-        self.ask_next(back, desk.time);
-        let pause = self.upstream.due(0).saturating_sub(desk.time);
-        forget_after(link, pause);
-        desk.reports
-            .add_if(is_reported, Report::Lost { server, why, pause });
-        desk.reports.add_if(is_tls, Report::Tls { server });
-    }
-
-    /// The response ended, or the connection broke off. A server whose feed stood open for long did
-    /// not fail: a proxy ends a feed in which nothing happens. It is asked again at once. Any other
-    /// one is lost.
-    pub(crate) fn end<L: Link>(&mut self, desk: &mut Desk, link: &mut L, why: Why)
-        ensures left { WasLeft self.old self.new (L.exchanges link.old) (L.exchanges link.new) }
-        ensures calls { L.calls link.new ≡ L.calls link.old }
-        ensures again { stood_long self.old desk.old.time ≡ true
-            → AsksAgain self.old self.new desk.old.time }
-        ensures next { stood_long self.old desk.old.time ≡ false
-            → GoesOnTo self.old self.new desk.old.time }
-        ensures rests { self.new.has_more ≡ false }
-        ensures heeds { HeedsTime self.old self.new desk.old.time desk.new.time }
-        ensures heard { self.new.is_heard
-            ≡ (self.old.is_heard || is_end why && is_some (heard_time self.old)) }
-    {
-        if self.stood_long(desk.time) {
-            self.end_well(desk, link, why);
-        } else {
-            self.lost(desk, link, why);
-        }
-    }
-
-    /// Whether the feed of the server stood open for long, and nothing of it is yet to settle, but
-    /// for one that is at what is shown.
-    fn stood_long(&self, now: u64) -> bool
-        ensures { result ≡ stood_long self.now now }
-    {
-        let Some(since) = self.body_since else {
-            return false;
-        };
-        let is_over = self.coming.is_none() || self.is_at_shown();
-        since.saturating_add(STOOD_LONG) <= now && is_over
-    }
-
-    /// The server is left that did not fail, and is asked again at once.
-    fn end_well<L: Link>(&mut self, desk: &mut Desk, link: &mut L, why: Why)
-        ensures left { WasLeft self.old self.new (L.exchanges link.old) (L.exchanges link.new) }
-        ensures calls { L.calls link.new ≡ L.calls link.old }
-        ensures again { AsksAgain self.old self.new desk.old.time }
-        ensures rests { self.new.has_more ≡ false }
-        ensures heeds { HeedsTime self.old self.new desk.old.time desk.new.time }
-        ensures heard { self.new.is_heard
-            ≡ (self.old.is_heard || is_end why && is_some (heard_time self.old)) }
-    {
-        let server = self.upstream.place();
-        self.rechecking.lose();
-        self.hear_end(why);
-        self.leave(link, desk.time);
-        let is_reported = self.patience.ask_again(desk.time);
-        self.figures.end(why, desk.time);
-        self.servers
-            .fail(server, FollowFailure::Left(why), desk.time);
-        self.upstream.ended(self.answers.shown.change(), desk.time);
-        let lost = Report::Lost {
-            server,
-            why,
-            pause: 0,
-        };
-        desk.reports.add_if(is_reported, lost);
-    }
-
-    /// A server is lost. Whether that is to be reported: not where it was only asked since another
-    /// one had nothing new, and did not answer.
-    fn lose(&mut self) -> bool
-        ensures same { SameSource self.old self.new }
-        ensures upstream { self.new.upstream ≡ self.old.upstream }
-        ensures reported { result
-            ≡ (is_some self.old.body_since || not (has_left_quiet self.old.returning)) }
-        ensures times { SameTimes self.old self.new }
-        ensures exact { self.new ≡ record self.old {
-          returning = after_loss self.old.body_since self.old.returning;
-        } }
-    {
-        if self.body_since.is_some() {
-            self.returning.lose();
-        }
-        !self.returning.has_left_quiet()
-    }
-
-    /// A server that ended its answer has sent all that comes after our token.
-    fn hear_end(&mut self, why: Why)
-        ensures same { SameSource self.old self.new }
-        ensures heard { self.new.is_heard
-            ≡ (self.old.is_heard || is_end why && is_some (heard_time self.old)) }
-        ensures upstream { self.new.upstream ≡ self.old.upstream }
-        ensures times { SameTimes self.old self.new }
-        ensures returning { self.new.returning ≡ self.old.returning }
-    {
-        if matches!(why, Why::Ended) && self.heard_at().is_some() {
-            self.is_heard = true;
-        }
-    }
-
-    pub(crate) fn leave<L: Link>(&mut self, link: &mut L, now: u64)
-        ensures exchanges { L.exchanges link.new ≡ L.exchanges link.old }
-        ensures calls { L.calls link.new ≡ L.calls link.old }
-        ensures servers { servers_of self.new ≡ servers_of self.old }
-        ensures answers { self.new.answers ≡ self.old.answers }
-        ensures upstream { self.new.upstream ≡ self.old.upstream }
-        ensures away { self.new.reach ≡ Away }
-        ensures rests { self.new.has_more ≡ false }
-        ensures none { self.new.body_since ≡ None }
-        ensures opened { self.new.opened ≡ self.old.opened }
-        ensures heeds { HeedsTime self.old self.new now now }
-        ensures heard { self.new.is_heard ≡ self.old.is_heard }
-        ensures returning { self.new.returning ≡ self.old.returning }
-        ensures leading { self.new.leading ≡ self.old.leading }
-    {
-        link.close();
-        if self.body_since.is_some() {
-            self.away_since = now;
-            let token = self.answers.shown.node().token();
-            let token = token.map(|token| Excerpt::of(token.text()));
-            self.servers.leave(self.upstream.place(), token, now);
-        }
-        self.reach = Reach::Away;
-        // What had not settled is dropped.
-        self.coming = None;
-        self.rechecking.leave();
-        self.beginning.leave();
-        self.body_since = None;
-        self.has_more = false;
-    }
 }
 
 /// Why no connection was begun, where none was.
@@ -541,16 +220,5 @@ fn why_not(begun: Result<(), Why>) -> Why
     match begun {
         Ok(()) => Why::Refuses,
         Err(why) => why,
-    }
-}
-
-/// Each server failed where the next one is asked after so long a pause: the addresses of names are
-/// asked for again then.
-fn forget_after<L: Link>(link: &mut L, pause: u64)
-    ensures exchanges { L.exchanges link.new ≡ L.exchanges link.old }
-    ensures calls { L.calls link.new ≡ L.calls link.old }
-{
-    if pause >= FIRST_PAUSE {
-        link.forget_addresses();
     }
 }

@@ -1,6 +1,6 @@
 //! The response is read and followed.
 
-ghost use Rattle.std.specs.Prelude.{◌≡◌, ◌≢◌, ◌↔◌, ◌⊎◌, IsTrue, ◌+◌, ◌-◌, ◌<◌, ◌++◌, [], List, ℕ, length, Result, OnOk, IfOk, IfErr, IfSome, None, Bool, if◌then◌else◌, is_some, false, true};
+ghost use Rattle.std.specs.Prelude.{◌≡◌, ◌≢◌, ◌↔◌, ◌⊎◌, IsTrue, ◌+◌, ◌<◌, ◌++◌, [], List, ℕ, length, Result, OnOk, IfOk, IfErr, IfSome, None, Bool, is_some};
 ghost use Rattle.feed_device.specs.Calls.{HasRead, AnsweredAtLeastOnce, AnsweredSince};
 ghost use Rattle.feed_device.specs.declared.device.Stop.{Stop as Stops};
 ghost use Rattle.feed_node.specs.Mirroring.{MirrorState};
@@ -8,14 +8,10 @@ ghost use Rattle.feed_follow.specs.Following.{Fails};
 ghost use Rattle.feed_follow.specs.Standing.{Standing};
 ghost use Rattle.feed_hub.specs.Upstream.{IsFollowing, IsPushed};
 ghost use Rattle.feed_live.specs.Upstream.{wants_memory};
-ghost use Rattle.feed_live.specs.Leading.{is_other_log};
-ghost use Rattle.feed_live.specs.Leaving.{asked_after_refusal, refused_after};
 
-use crate::source::leading::Coming;
 use crate::source::settling::{End, followed_of};
 use crate::source::{Reach, Source, has_to_wait};
-use feed_device::{Desk, Excerpt, Lack, Link, Report, Why};
-use feed_figures::{FollowFailure, Following};
+use feed_device::{Desk, Excerpt, Link, Report, Why};
 use feed_follow::{FollowFault, Progress};
 use feed_node::{FeedFault, Mirror};
 use feed_screens::Screens;
@@ -36,7 +32,7 @@ impl Source {
     ghost use Rattle.feed_live.specs.Calling.{AsRead, ReadAtOnce, KeepsNothing, LeavesOnlyFor, MarksMore, MayReadOn, TakesWhatCame};
     ghost use Rattle.feed_live.specs.Times.{HeedsTime, SameTimes};
     ghost use Rattle.feed_live.specs.Relaying.{StillFollows, SameSource, within_turn};
-    ghost use Rattle.feed_live.specs.Relaying.{SameButUnread, WasLeft, PushesOnly, followed_by};
+    ghost use Rattle.feed_live.specs.Relaying.{SameButUnread, PushesOnly, followed_by};
     ghost use Rattle.feed_live.specs.declared.source.Reach.TheVariants.{Away, Reads as Read};
 
     /// Takes what was kept, and reads what came, so many times.
@@ -368,147 +364,6 @@ impl Source {
                 self.upstream.take(desk.alloc, mirror, line, desk.time)
             }
         }
-    }
-
-    /// The server does not hold the token: the others are asked with it before it is forgotten.
-    /// Where that is the one before the newest, it is asked with the newest first.
-    fn refused<L: Link>(&mut self, desk: &mut Desk, link: &mut L)
-        ensures left { WasLeft self.old self.new (L.exchanges link.old) (L.exchanges link.new) }
-        ensures next { self.new.upstream.since ≡ (if is_some self.old.rechecking.again
-            then desk.old.time else asked_after_refusal self.old desk.old.time) }
-        ensures counts { self.new.upstream.refused ≡ (if is_some self.old.rechecking.again
-            then self.old.upstream.refused else refused_after self.old desk.old.time) }
-        ensures heeds { HeedsTime self.old self.new desk.old.time desk.new.time }
-        ensures calls { L.calls link.new ≡ L.calls link.old }
-    {
-        if self.rechecking.is_going() {
-            self.ask_newest(link, desk.time);
-            return;
-        }
-        let refused = Report::Refused {
-            server: self.upstream.place(),
-        };
-        let is_news = !self.returning.has_left_quiet() && !self.leading.is_look();
-        desk.reports.add_if(is_news, refused);
-        self.without_token(desk, link, false);
-    }
-
-    /// The others are asked with the token, and after that the mirror forgets it. Where the first
-    /// server refuses it a second time, it is asked for everything. It may answer with another
-    /// commit instead.
-    pub(crate) fn without_token<L: Link>(
-        &mut self,
-        desk: &mut Desk,
-        link: &mut L,
-        has_another: bool,
-    )
-        ensures left { WasLeft self.old self.new (L.exchanges link.old) (L.exchanges link.new) }
-        ensures next { self.new.upstream.since ≡ asked_after_refusal self.old desk.old.time }
-        // who refused the token counts, until each one has
-        ensures counts { self.new.upstream.refused ≡ refused_after self.old desk.old.time }
-        // a first server whose log is another one is asked for everything, at once
-        ensures other { is_other_log self.old.leading self.old.upstream.place desk.old.time ≡ true
-            → (self.new.upstream.place ≡ self.old.upstream.place)
-            × (self.new.leading.wants_all ≡ true) }
-        ensures heeds { HeedsTime self.old self.new desk.old.time desk.new.time }
-        ensures calls { L.calls link.new ≡ L.calls link.old }
-    {
-        let now = desk.time;
-        let server = self.upstream.place();
-        self.patience
-            .answer(server, now.saturating_sub(self.opened));
-        let back = self.leading.end_look();
-        let is_other_log = self.leading.refuse(server, now);
-        let (failure, lack) = refusal(has_another);
-        self.leave(link, now);
-        self.figures.refuse_token(failure, now);
-        self.servers.fail(server, failure, now);
-        self.figures.change(Following::Away, now);
-        self.leading.fail(server, lack, now);
-        if is_other_log {
-            self.leading.want_all();
-            desk.reports.add(Report::OtherLog { server });
-            self.upstream
-                .turn_to(server, self.answers.shown.change(), now);
-            return;
-        }
-        match back {
-            Some(from) => self
-                .upstream
-                .turn_to(from, self.answers.shown.change(), now),
-            None => self.upstream.refused(self.answers.shown.change(), now),
-        }
-    }
-
-    /// The server answers with the feed.
-    fn found(&mut self, desk: &mut Desk)
-        ensures same { SameSource self.old self.new }
-        ensures heeds { HeedsTime self.old self.new desk.old.time desk.new.time }
-    {
-        if self.body_since.is_some() {
-            return;
-        }
-        self.body_since = Some(desk.time);
-        self.has_reported_twice = false;
-        let server = self.upstream.place();
-        if !self.is_fresh {
-            self.find_held(server);
-            self.settling.go_on();
-        }
-        self.figures.find(self.coming.is_some(), desk.time);
-        self.servers.answer(server);
-        let away = desk.time.saturating_sub(self.away_since);
-        desk.reports
-            .add_if(self.is_found_news(), Report::Found { server, away });
-        let took = desk.time.saturating_sub(self.opened);
-        let comes = self.what_comes();
-        let is_again = self.patience.is_again() || self.leading.is_back(server);
-        self.returning.find(is_again, desk.time);
-        self.patience.answer(server, took);
-        self.leading.find(desk, server, took, comes);
-    }
-
-    /// What is yet to come of the server.
-    fn what_comes(&self) -> Coming {
-        if self.coming.is_some() {
-            Coming::All
-        } else if self.rechecking.is_going() {
-            Coming::Newest
-        } else {
-            Coming::News
-        }
-    }
-
-    /// A server that goes on from our token holds it, unless its newest commit is yet to come
-    /// again.
-    fn find_held(&mut self, server: usize)
-        ensures same { SameSource self.old self.new }
-        ensures times { SameTimes self.old self.new }
-        ensures since { self.new.body_since ≡ self.old.body_since }
-    {
-        if self.rechecking.is_going() {
-            return;
-        }
-        if !self.rechecking.is_doubted() {
-            self.upstream.held();
-        }
-        self.leading.hold(server);
-    }
-
-    /// Whether it is reported that a server answers: not where the one before was left that did not
-    /// fail, nor where this one is followed on.
-    fn is_found_news(&self) -> bool {
-        let has_left = self.returning.has_left_quiet() || self.patience.is_again();
-        !has_left && !self.leading.is_back(self.upstream.place())
-    }
-}
-
-/// How a server refuses our token: by its status, or with another commit there.
-fn refusal(has_another: bool) -> (FollowFailure, Lack) {
-    if has_another {
-        (FollowFailure::OtherCommit, Lack::OtherCommit)
-    } else {
-        (FollowFailure::TokenRefused, Lack::TokenRefused)
     }
 }
 

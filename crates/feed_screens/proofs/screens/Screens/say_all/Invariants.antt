@@ -16,4 +16,5 @@ invariant-loop l =
       most : l.self.hub.most ≡ l.initial.self.hub.most;
       to_do : SameToDo l.initial.self l.self;
       due : MakesDue l.initial.self l.self;
+      trimmed : l.self.saying.is_trimmed ≡ l.initial.self.saying.is_trimmed;
     }

@@ -1,4 +1,4 @@
-use Rattle.std.proofs.Common.{sym, subst, ap, ◌∙◌}
+use Rattle.std.proofs.Common.{sym, subst, ap, ◌∙◌, inl}
 use Rattle.feed_screens.specs.Serving.{AllEnd}
 use Rattle.feed_screens.proofs.EndingLemmas.{end_same}
 use Rattle.feed_screens.proofs.ServingLemmas.{serving_said, serving_noted}
@@ -70,3 +70,6 @@ returns-in-Err-clause-ended c =
 pub returns-in-Err-clause-most : goal.returns-in-Err-clause-most
 returns-in-Err-clause-most c =
     c.say_next.ensures.limits.most
+
+pub returns-in-Ok-Looked-Gone-clause-moves : goal.returns-in-Ok-Looked-Gone-clause-moves
+returns-in-Ok-Looked-Gone-clause-moves c = λ _. inl c.end_feeds.ensures.told
