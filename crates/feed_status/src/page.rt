@@ -35,6 +35,7 @@ th { font-weight: normal; text-align: left; opacity: 0.75; }
 th, td { padding: 0.1rem 1.2rem 0.1rem 0; vertical-align: top; overflow-wrap: anywhere; }
 td { font-variant-numeric: tabular-nums; }
 #rows th, #servers th, #servers td:first-child { white-space: nowrap; }
+#servers td { overflow-wrap: normal; }
 .wide { overflow-x: auto; margin: 0 0 1rem; }
 #screens td:last-child, #screens th:last-child { text-align: right; padding-right: 0; }
 figure { margin: 0 0 1rem; }
