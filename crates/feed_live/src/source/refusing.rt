@@ -1,6 +1,6 @@
 //! A server refuses our token, or has another commit there.
 
-ghost use Rattle.std.specs.Prelude.{◌≡◌, is_some, true};
+ghost use Rattle.std.specs.Prelude.{if◌then◌else◌, ◌≡◌, is_some, true};
 ghost use Rattle.feed_live.specs.Leading.{is_other_log};
 ghost use Rattle.feed_live.specs.Leaving.{asked_after_refusal, refused_after};
 
