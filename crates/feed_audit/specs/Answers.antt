@@ -1,5 +1,5 @@
 -- What an audit answers.
-use Rattle.std.specs.Prelude.{◌≡◌, ◌≢◌, ℕ, ◌+◌, min, Option, Some, List, [], ◌∷◌, ◌++◌, length}
+use Rattle.std.specs.Prelude.{◌≡◌, ◌≢◌, ℕ, ◌+◌, min, Option, Some, List, [], ◌∷◌, ◌++◌, length, IfSome}
 use Rattle.feed_settings.specs.Limits.{Limits}
 use Rattle.feed_note.specs.Lines.{lines, ended}
 use Rattle.feed_node.specs.Publishing.{Published}
@@ -12,7 +12,8 @@ use Rattle.feed_audit.specs.Differences.{Explains}
 use Rattle.feed_records.specs.Fronts.{IsLeft}
 use Rattle.feed_audit.specs.States.{Start, afresh, published_from, IsStateFrom, IsStateOf, AgreesFrom}
 use Rattle.feed_audit.specs.Stops.{IsOfRecord}
-use Rattle.feed_audit.specs.Walks.{Walked, AllAre, FaultsIn, FaultsFirst}
+use Rattle.feed_audit.specs.Walks.{Walked, Counts, AllAre, FaultsIn, FaultsFirst, IsSince}
+use Rattle.feed_audit.specs.declared.ours.Ours.{Ours}
 use Rattle.feed_audit.specs.declared.verdict.AuditFault.{AuditFault}
 use Rattle.feed_audit.specs.declared.verdict.AuditFault.TheVariants as fault
 use Rattle.feed_audit.specs.declared.verdict.Stray.{Stray}
@@ -92,6 +93,11 @@ IsVerdictOn start primary screen (verdict.Agrees states) mirror =
 IsVerdictOn start primary screen (verdict.Strays stray) mirror =
     StrayingFrom start primary screen stray
 
+-- this is so where the text agrees
+abbrev pub IfAgrees : Verdict → Type 0 → Type 0
+IfAgrees (verdict.Agrees states) P = P
+IfAgrees (verdict.Strays stray) P = Unit {0}
+
 -- the same of a screen's text that a fresh connection carried
 abbrev pub IsVerdict : Limits → List ℕ → List ℕ → Verdict → Type 0
 IsVerdict limits primary screen verdict = IsVerdictFrom (afresh limits) primary screen verdict
@@ -126,11 +132,11 @@ FailsToLocate limits primary wanted (fault.PrimaryUnread why) = IsOfRecord why
 FailsToLocate limits primary wanted (fault.ScreenUnread why) = ⊥
 FailsToLocate limits primary wanted fault.Memory = Unit {0}
 
--- a mirror has read some of the lines of a text on a fresh connection, and the others are left
-abbrev pub HasReadLines : Limits → List ℕ → Option (List ℕ) → ℕ → MirrorState → Type 0
-HasReadLines limits text left lines mirror =
-    IsLeft left (λ behind.
-    (notes : List Line) × Walked (afresh limits) text behind notes lines mirror)
+-- A mirror has read some of the lines of a text on a fresh connection, which are so many and
+-- publish so many states, and the others are left.
+abbrev pub HasReadLines : Limits → List ℕ → Option (List ℕ) → ℕ → ℕ → MirrorState → Type 0
+HasReadLines limits text left lines states mirror =
+    IsLeft left (λ behind. Counts (afresh limits) text behind lines states mirror)
 
 -- nothing of it was read, and all of it is left
 pub record StartsReading (limits : Limits) (text : List ℕ) (left : Option (List ℕ))
@@ -142,3 +148,11 @@ pub record StartsReading (limits : Limits) (text : List ℕ) (left : Option (Lis
 abbrev pub IsStrange : Limits → List ℕ → NodeState → Type 0
 IsStrange limits text node =
     (state : Published) → node.published ≡ Some state → ¬ (IsStateOf limits text state)
+
+-- So far was the primary's text read where the screen's mirror shows this, which is one of the
+-- primary's states.
+pub record IsBeside (limits : Limits) (text : List ℕ) (left : Option (List ℕ)) (ours : Ours)
+    (theirs : MirrorState) : Type 0 where
+  pub read : HasReadLines limits text left ours.lines ours.states ours.mirror
+  pub since : IsSince ours.since ours.mirror.node theirs.node
+  pub shown : IfSome theirs.node.published (IsStateOf limits text)

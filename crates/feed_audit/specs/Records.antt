@@ -1,16 +1,18 @@
 -- What an audit of a record of several connections answers. Each is read as a fresh one, or goes on
 -- where those before it ended.
-use Rattle.std.specs.Prelude.{◌≡◌, ℕ, ◌+◌, min, Bool, true, false, List, [], ◌∷◌, ◌++◌, Option, None, Some}
+use Rattle.std.specs.Prelude.{◌≡◌, ◌⊎◌, ◌≤◌, ℕ, ◌+◌, min, Bool, true, false, List, [], ◌∷◌, ◌++◌, Option, None, Some}
 use Rattle.feed_settings.specs.Limits.{Limits}
 use Rattle.feed_node.specs.Mirroring.{MirrorState, new_mirror, mirror_after, first_opening, present_opening}
 use Rattle.feed_node.specs.Reading.{Opening}
 use Rattle.feed_node.specs.declared.fault.FeedFault.{FeedFault}
-use Rattle.feed_audit.specs.Answers.{AgreementFrom, StrayingFrom, PrimaryFaults, ScreenFaults}
+use Rattle.feed_audit.specs.Answers.{AgreementFrom, StrayingFrom, PrimaryFaults, ScreenFaults, HasStates, FailsToCount}
 use Rattle.feed_records.specs.Connections.{AreConnectionsOf, Recorded, is_chunked}
 use Rattle.feed_audit.specs.States.{Start}
 use Rattle.feed_audit.specs.Stops.{IsOfRecord}
 use Rattle.feed_audit.specs.declared.verdict.AuditFault.{AuditFault}
 use Rattle.feed_audit.specs.declared.verdict.AuditFault.TheVariants as fault
+use Rattle.feed_audit.specs.declared.verdict.Comparison.{Comparison}
+use Rattle.feed_audit.specs.declared.verdict.Comparison.TheVariants as comparison
 use Rattle.feed_audit.specs.declared.verdict.Stray.{Stray}
 use Rattle.feed_audit.specs.declared.verdict.Verdict.{Verdict}
 use Rattle.feed_audit.specs.declared.verdict.Verdict.TheVariants as verdict
@@ -146,3 +148,24 @@ module _ (limits : Limits) (primary : List ℕ) where
   FailsToAuditRecord screen (fault.PrimaryUnread why) = IsOfRecord why
   FailsToAuditRecord screen (fault.ScreenUnread why) = IsOfRecord why
   FailsToAuditRecord screen fault.Memory = Unit {0}
+
+  -- the records agree, and the primary's has a line further on that can't be read
+  abbrev pub FailsBehind : List ℕ → AuditFault → Type 0
+  FailsBehind screen why =
+      (states : ℕ) × RecordAgrees screen states × FailsToCount limits primary why
+
+  -- a line of a record can't be read
+  abbrev pub FailsToCompare : List ℕ → AuditFault → Type 0
+  FailsToCompare screen why = FailsToAuditRecord screen why ⊎ FailsBehind screen why
+
+  -- nothing is wrong with the records, each state of the screen's, one or more, is one of the
+  -- primary's, and so many states both have
+  pub record BothAgree (screen : List ℕ) (states all : ℕ) : Type 0 where
+    pub some : 1 ≤ states
+    pub agrees : RecordAgrees screen states
+    pub has : HasStates limits primary all
+
+  abbrev pub IsComparison : List ℕ → Comparison → Type 0
+  IsComparison screen comparison.Unpublished = RecordAgrees screen 0
+  IsComparison screen (comparison.Agrees states all) = BothAgree screen states all
+  IsComparison screen (comparison.Strays stray) = RecordStrays screen stray

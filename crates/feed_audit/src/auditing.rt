@@ -1,18 +1,17 @@
 //! Whether each state of a screen's record is a state of the primary's.
 
-ghost use Rattle.std.specs.Prelude.{◌≡◌, ◌≤◌, ℕ, List, IfOk, IfErr, IfSome, OnOk, Some, true, false};
+ghost use Rattle.std.specs.Prelude.{◌≡◌, ◌≤◌, ℕ, List, IfOk, IfErr, OnOk, Some, true, false};
 ghost use Rattle.feed_node.specs.States.{published_token};
-ghost use Rattle.feed_audit.specs.Answers.{IsVerdict, IsVerdictOn, begun_by, FailsFrom, FailsToAudit, FailsToLocate, HasReadLines, IsStrange};
+ghost use Rattle.feed_node.specs.Mirroring.{new_mirror};
+ghost use Rattle.feed_audit.specs.Answers.{IsVerdict, IsVerdictOn, IfAgrees, IsBeside, begun_by, FailsFrom, FailsToAudit, FailsToLocate, HasReadLines, IsStrange};
 ghost use Rattle.feed_records.specs.Fronts.{IsLeft};
-ghost use Rattle.feed_audit.specs.States.{Start, afresh, IsStateOf};
-ghost use Rattle.feed_audit.specs.Walks.{Walked, Finds, IsSince};
+ghost use Rattle.feed_audit.specs.States.{Start, afresh};
+ghost use Rattle.feed_audit.specs.Walks.{Counts, Finds, IsSince};
 ghost use Rattle.feed_audit.specs.Stops.{IsUnread, IsUnreadPrimary};
-ghost use Rattle.feed_note.specs.declared.line.Line.{Line as Note};
 ghost use Rattle.feed_audit.specs.declared.verdict.AuditFault.TheVariants as failed;
 
-use crate::again::read_again;
 use crate::explaining::explain;
-use crate::since::Since;
+use crate::ours::Ours;
 use crate::stop::Stop;
 use crate::verdict::{AuditFault, Stray, Verdict, of_primary, of_screen};
 use crate::walk::{find, next_state};
@@ -43,13 +42,34 @@ fn token_of(node: &Node) -> Result<Name, AuditFault>
     Ok(token.copy()?)
 }
 
-/// How far the primary's record was read.
+/// Both records, as far as they were read.
 #[derive(Drop)]
-struct Ours {
-    /// What its lines are fed to.
-    mirror: Mirror,
-    /// How many they are.
-    lines: usize,
+pub(crate) struct Sides {
+    /// The primary's.
+    pub ours: Ours,
+    /// What the lines of the screen's are fed to.
+    pub theirs: Mirror,
+}
+
+impl Sides {
+    /// Goes back to the beginning of the primary's record. Nothing was read of either.
+    pub fn begin<P: Replayed>(
+        alloc: Global,
+        limits: Limits,
+        primary: &mut P,
+    ) -> Result<Sides, AuditFault>
+        ensures beside { (text : List ℕ) → P.whole primary.old ≡ Some text
+            → IfOk result (λ sides.
+            IsBeside limits text (P.left primary.new) sides.ours sides.theirs) }
+        ensures theirs { IfOk result (λ sides. sides.theirs ≡ new_mirror limits) }
+        ensures err { IfErr result IsUnreadPrimary }
+        ensures whole { P.whole primary.new ≡ P.whole primary.old }
+        ensures unread { IfErr result (IsUnread (P.unread primary.new) (λ _. ⊥)) }
+    {
+        let theirs = Mirror::new(alloc, limits)?;
+        let ours = Ours::begin(alloc, limits, primary)?;
+        Ok(Sides { ours, theirs })
+    }
 }
 
 /// Looks for what a node shows among the primary's states behind those that were read. It is not
@@ -59,26 +79,17 @@ fn find_behind<P: Lines>(
     primary: &mut P,
     ours: &mut Ours,
     wanted: &Node,
-    since: &mut Since,
 ) -> Result<bool, AuditFault>
-    ensures some { (start : Start) (all behind : List ℕ) (notes : List Note)
-        → P.left primary.old ≡ Some behind
-        → Walked start all behind notes ours.old.lines ours.old.mirror
-        → IsSince since.old ours.old.mirror.node wanted.now.shown
-        → IfOk result (λ found. found ≡ true → IsLeft (P.left primary.new)
-        (λ behind. Finds start all behind ours.new.lines ours.new.mirror wanted.now.shown)) }
+    ensures some { (start : Start) (all behind : List ℕ) → P.left primary.old ≡ Some behind
+        → Counts start all behind ours.old.lines ours.old.states ours.old.mirror
+        → IsSince ours.old.since ours.old.mirror.node wanted.now.shown
+        → IfOk result (λ found. found ≡ true → IsLeft (P.left primary.new) (λ behind.
+        Finds start all behind ours.new.lines ours.new.states ours.new.mirror wanted.now.shown)) }
     ensures err { IfErr result IsUnreadPrimary }
     ensures whole { P.whole primary.new ≡ P.whole primary.old }
     ensures unread { IfErr result (IsUnread (P.unread primary.new) (λ _. ⊥)) }
 {
-    match find(
-        alloc,
-        &mut ours.mirror,
-        primary,
-        &mut ours.lines,
-        wanted,
-        since,
-    ) {
+    match find(alloc, ours, primary, wanted) {
         Ok(found) => Ok(found),
         Err(Stop::Feed(_)) => Ok(false),
         Err(Stop::Unread(why)) => Err(of_primary(Stop::Unread(why), ours.lines)),
@@ -93,13 +104,14 @@ fn locate<P: Replayed>(
     primary: &mut P,
     ours: &mut Ours,
     wanted: &Node,
-    since: &mut Since,
 ) -> Result<bool, AuditFault>
     ensures some { (text : List ℕ) → P.whole primary.old ≡ Some text
-        → HasReadLines limits text (P.left primary.old) ours.old.lines ours.old.mirror
-        → IsSince since.old ours.old.mirror.node wanted.now.shown
+        → HasReadLines limits text (P.left primary.old) ours.old.lines ours.old.states
+        ours.old.mirror
+        → IsSince ours.old.since ours.old.mirror.node wanted.now.shown
         → IfOk result (λ found. found ≡ true → IsLeft (P.left primary.new) (λ behind.
-        Finds (afresh limits) text behind ours.new.lines ours.new.mirror wanted.now.shown)) }
+        Finds (afresh limits) text behind ours.new.lines ours.new.states ours.new.mirror
+        wanted.now.shown)) }
     ensures none { (text : List ℕ) → P.whole primary.old ≡ Some text
         → IfOk result (λ found. found ≡ false → IsStrange limits text wanted.now.shown) }
     ensures err { (text : List ℕ) → P.whole primary.old ≡ Some text
@@ -109,53 +121,47 @@ fn locate<P: Replayed>(
 {
     // What `none` rests on.
     line_laws();
-    if find_behind(alloc, primary, ours, wanted, since)? {
+    if find_behind(alloc, primary, ours, wanted)? {
         return Ok(true);
     }
-    let again = read_again(alloc, limits, primary)?;
-    *ours = Ours {
-        mirror: again,
-        lines: 0,
-    };
-    *since = Since::unknown(alloc);
-    match find(
-        alloc,
-        &mut ours.mirror,
-        primary,
-        &mut ours.lines,
-        wanted,
-        since,
-    ) {
+    *ours = Ours::begin(alloc, limits, primary)?;
+    match find(alloc, ours, primary, wanted) {
         Ok(found) => Ok(found),
         Err(stop) => Err(of_primary(stop, ours.lines)),
     }
 }
 
 /// Whether each state that a connection of the screen publishes is one that the primary's record
-/// publishes under the same token. The connection begins now on this mirror, and carries what is
-/// left of the screen's text.
+/// publishes under the same token. The connection begins now on the mirror of the screen's side,
+/// and carries what is left of the screen's text. The primary's record is read on from where it was
+/// left.
 pub(crate) fn audit_on<P: Replayed, L: Lines>(
     alloc: Global,
     limits: Limits,
     primary: &mut P,
     screen: &mut L,
-    theirs: &mut Mirror,
+    sides: &mut Sides,
 ) -> Result<Verdict, AuditFault>
-    requires { theirs.old.limits ≡ limits }
+    requires { sides.old.theirs.limits ≡ limits }
     ensures ok { (text body : List ℕ) → P.whole primary.old ≡ Some text
         → L.left screen.old ≡ Some body
-        → IfSome theirs.old.node.published (IsStateOf limits text)
+        → IsBeside limits text (P.left primary.old) sides.old.ours sides.old.theirs
         → IfOk result (λ verdict.
-        IsVerdictOn (begun_by limits theirs.old) text body verdict theirs.new) }
+        IsVerdictOn (begun_by limits sides.old.theirs) text body verdict sides.new.theirs) }
     ensures err { (text body : List ℕ) → P.whole primary.old ≡ Some text
         → L.left screen.old ≡ Some body
-        → IfSome theirs.old.node.published (IsStateOf limits text)
-        → IfErr result (λ fault. FailsFrom (begun_by limits theirs.old) text body fault) }
-    ensures limits { theirs.new.limits ≡ limits }
+        → IsBeside limits text (P.left primary.old) sides.old.ours sides.old.theirs
+        → IfErr result (λ fault. FailsFrom (begun_by limits sides.old.theirs) text body fault) }
+    ensures beside { (text body : List ℕ) → P.whole primary.old ≡ Some text
+        → L.left screen.old ≡ Some body
+        → IsBeside limits text (P.left primary.old) sides.old.ours sides.old.theirs
+        → IfOk result (λ verdict. IfAgrees verdict
+        (IsBeside limits text (P.left primary.new) sides.new.ours sides.new.theirs)) }
+    ensures limits { sides.new.theirs.limits ≡ limits }
     ensures whole { P.whole primary.new ≡ P.whole primary.old }
     ensures beyond { (text body : List ℕ) → P.whole primary.old ≡ Some text
         → L.left screen.old ≡ Some body
-        → IfSome theirs.old.node.published (IsStateOf limits text)
+        → IsBeside limits text (P.left primary.old) sides.old.ours sides.old.theirs
         → (end : ℕ × List ℕ) → L.beyond screen.old ≡ Some end
         → OnOk result (L.beyond screen.new ≡ Some end) }
     ensures room { OnOk result (L.room screen.new ≤ L.room screen.old) }
@@ -163,21 +169,18 @@ pub(crate) fn audit_on<P: Replayed, L: Lines>(
 {
     // What `ok` rests on.
     line_laws();
-    theirs.begin();
-    let mirror = read_again(alloc, limits, primary)?;
-    let mut ours = Ours { mirror, lines: 0 };
+    sides.theirs.begin();
     let mut lines = 0;
-    let mut since = Since::unknown(alloc);
     let mut states: usize = 0;
     'states: loop {
-        let before = shown_by(theirs.node())?;
-        match next_state(alloc, theirs, screen, &mut lines) {
+        let before = shown_by(sides.theirs.node())?;
+        match next_state(alloc, &mut sides.theirs, screen, &mut lines) {
             Err(stop) => return Err(of_screen(stop, lines)),
             Ok(false) => return Ok(Verdict::Agrees(states)),
             Ok(true) => {
-                let wanted = theirs.node();
-                since.note_theirs(wanted)?;
-                if !locate(alloc, limits, primary, &mut ours, wanted, &mut since)? {
+                let wanted = sides.theirs.node();
+                sides.ours.since.note_theirs(wanted)?;
+                if !locate(alloc, limits, primary, &mut sides.ours, wanted)? {
                     let difference = explain(alloc, limits, primary, &before, wanted)?;
                     return Ok(Verdict::Strays(Stray {
                         token: token_of(wanted)?,
@@ -188,7 +191,7 @@ pub(crate) fn audit_on<P: Replayed, L: Lines>(
                 }
                 // By a call: one that goes out of scope is a case for each kind of token.
                 drop(before);
-                since.meet();
+                sides.ours.since.meet();
                 states = states.saturating_add(1);
             }
         }
@@ -206,8 +209,8 @@ pub fn audit(
     ensures ok { IfOk result (λ verdict. IsVerdict limits primary.now screen.now verdict) }
     ensures err { IfErr result (λ fault. FailsToAudit limits primary.now screen.now fault) }
 {
-    let mut theirs = Mirror::new(alloc, limits)?;
-    let mut ours = TextLines::new(primary);
+    let mut lines = TextLines::new(primary);
+    let mut sides = Sides::begin(alloc, limits, &mut lines)?;
     let mut text = TextLines::new(screen);
-    audit_on(alloc, limits, &mut ours, &mut text, &mut theirs)
+    audit_on(alloc, limits, &mut lines, &mut text, &mut sides)
 }

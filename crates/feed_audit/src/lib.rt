@@ -3,10 +3,12 @@
 
 mod again;
 mod auditing;
+mod comparing;
 mod counting;
 mod difference;
 mod explaining;
 mod laws;
+mod ours;
 mod record;
 mod since;
 mod stop;
@@ -14,8 +16,7 @@ mod verdict;
 mod walk;
 
 pub use auditing::audit;
-pub use counting::count_states;
+pub use comparing::compare;
 pub use difference::{Difference, Side, difference_of};
 pub use laws::state_laws;
-pub use record::audit_record;
-pub use verdict::{AuditFault, Stray, Verdict};
+pub use verdict::{AuditFault, Comparison, Stray, Verdict};

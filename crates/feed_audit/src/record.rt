@@ -1,16 +1,17 @@
 //! An audit of a record of several connections.
 
-ghost use Rattle.std.specs.Prelude.{◌≡◌, ◌≢◌, ◌⊎◌, ◌+◌, ◌≤◌, ℕ, List, true, false, min, IfOk, IfErr, OnOk, IsTrue, IfSome, Some};
+ghost use Rattle.std.specs.Prelude.{◌≡◌, ◌≢◌, ◌+◌, ◌≤◌, ℕ, List, Option, true, false, min, IfOk, IfErr, OnOk, IsTrue, Some};
 ghost use Rattle.feed_node.specs.Mirroring.{new_mirror, present_opening};
 ghost use Rattle.feed_records.specs.Connections.{is_chunked};
 ghost use Rattle.feed_audit.specs.Reaching.{IsPartVerdict, FailsInBody, faults_behind, recorded_of};
 ghost use Rattle.feed_records.specs.Parting.{most, since_of};
-ghost use Rattle.feed_audit.specs.States.{IsStateOf};
+ghost use Rattle.feed_audit.specs.Answers.{IfAgrees, IsBeside};
 ghost use Rattle.feed_audit.specs.Records.{IsRecordVerdict, FailsToAuditRecord, MayGoOn, opening_of};
 ghost use Rattle.feed_records.specs.ScreenLines.{source_of};
 ghost use Rattle.feed_audit.specs.Stops.{IsUnread, IsUnreadScreen};
 
-use crate::auditing::audit_on;
+use crate::auditing::{Sides, audit_on};
+use crate::since::Since;
 use crate::stop::Stop;
 use crate::verdict::{AuditFault, Stray, Verdict, of_screen};
 use feed_node::{Limits, Mirror};
@@ -34,25 +35,27 @@ fn choose(
     alloc: Global,
     limits: Limits,
     opened: &Opened,
-    mirror: &mut Mirror,
+    sides: &mut Sides,
 ) -> Result<(), AuditFault>
-    requires { mirror.old.limits ≡ limits }
-    ensures chosen { OnOk result
-        ((mirror.new ≡ mirror.old) ⊎ (mirror.new ≡ new_mirror limits)) }
-    ensures may { OnOk result (MayGoOn mirror.old (since_of opened.now)) }
+    requires { sides.old.theirs.limits ≡ limits }
+    ensures beside { (text : List ℕ) (left : Option (List ℕ))
+        → IsBeside limits text left sides.old.ours sides.old.theirs
+        → OnOk result (IsBeside limits text left sides.new.ours sides.new.theirs) }
+    ensures may { OnOk result (MayGoOn sides.old.theirs (since_of opened.now)) }
     ensures opening { OnOk result
-        (present_opening mirror.new ≡ opening_of mirror.old (since_of opened.now)) }
-    ensures limits { OnOk result (mirror.new.limits ≡ limits) }
+        (present_opening sides.new.theirs ≡ opening_of sides.old.theirs (since_of opened.now)) }
+    ensures limits { OnOk result (sides.new.theirs.limits ≡ limits) }
     ensures err { IfErr result (λ fault. fault ≢ AuditFault.Memory
-        → (fault ≡ AuditFault.OtherToken 1) × ¬ (MayGoOn mirror.old (since_of opened.now))) }
+        → (fault ≡ AuditFault.OtherToken 1) × ¬ (MayGoOn sides.old.theirs (since_of opened.now))) }
 {
     match &opened.since {
         None => {
-            *mirror = Mirror::new(alloc, limits)?;
+            sides.theirs = Mirror::new(alloc, limits)?;
+            sides.ours.since = Since::unknown(alloc);
             Ok(())
         }
         Some(token) => {
-            if asks_with(mirror, token.as_slice()) {
+            if asks_with(&sides.theirs, token.as_slice()) {
                 Ok(())
             } else {
                 Err(AuditFault::OtherToken(1))
@@ -87,25 +90,32 @@ fn audit_connection<P: Replayed, L: Lines>(
     primary: &mut P,
     screen: &mut L,
     opened: &Opened,
-    mirror: &mut Mirror,
+    sides: &mut Sides,
 ) -> Result<Verdict, AuditFault>
-    requires { mirror.old.limits ≡ limits }
+    requires { sides.old.theirs.limits ≡ limits }
     ensures ok { (text body : List ℕ) → P.whole primary.old ≡ Some text
         → L.left screen.old ≡ Some body
-        → IfSome mirror.old.node.published (IsStateOf limits text) → (before : ℕ)
-        → IfOk result (λ verdict. IsPartVerdict limits text opened.now.is_feed mirror.old
-        (recorded_of before opened.now body) verdict mirror.new) }
+        → IsBeside limits text (P.left primary.old) sides.old.ours sides.old.theirs
+        → (before : ℕ)
+        → IfOk result (λ verdict. IsPartVerdict limits text opened.now.is_feed sides.old.theirs
+        (recorded_of before opened.now body) verdict sides.new.theirs) }
     ensures err { (text body : List ℕ) → P.whole primary.old ≡ Some text
         → L.left screen.old ≡ Some body
-        → IfSome mirror.old.node.published (IsStateOf limits text) → (before : ℕ)
+        → IsBeside limits text (P.left primary.old) sides.old.ours sides.old.theirs
+        → (before : ℕ)
         → IfErr result (λ fault.
-        FailsInBody limits text mirror.old (recorded_of before opened.now body) fault) }
+        FailsInBody limits text sides.old.theirs (recorded_of before opened.now body) fault) }
+    ensures beside { (text body : List ℕ) → P.whole primary.old ≡ Some text
+        → L.left screen.old ≡ Some body
+        → IsBeside limits text (P.left primary.old) sides.old.ours sides.old.theirs
+        → IfOk result (λ verdict. IfAgrees verdict
+        (IsBeside limits text (P.left primary.new) sides.new.ours sides.new.theirs)) }
     ensures feed { IfErr result (λ _. opened.now.is_feed ≡ true) }
-    ensures limits { OnOk result (mirror.new.limits ≡ limits) }
+    ensures limits { OnOk result (sides.new.theirs.limits ≡ limits) }
     ensures whole { P.whole primary.new ≡ P.whole primary.old }
     ensures beyond { (text body : List ℕ) → P.whole primary.old ≡ Some text
         → L.left screen.old ≡ Some body
-        → IfSome mirror.old.node.published (IsStateOf limits text)
+        → IsBeside limits text (P.left primary.old) sides.old.ours sides.old.theirs
         → (end : ℕ × List ℕ) → L.beyond screen.old ≡ Some end
         → OnOk result (L.beyond screen.new ≡ Some end) }
     ensures room { OnOk result (L.room screen.new ≤ L.room screen.old) }
@@ -117,8 +127,8 @@ fn audit_connection<P: Replayed, L: Lines>(
     if look_for_chunks(screen)? {
         return Err(AuditFault::Chunked(1));
     }
-    choose(alloc, limits, opened, mirror)?;
-    audit_on(alloc, limits, primary, screen, mirror)
+    choose(alloc, limits, opened, sides)?;
+    audit_on(alloc, limits, primary, screen, sides)
 }
 
 /// A fault of a connection, by its line in the record.
@@ -162,29 +172,37 @@ fn stray_behind(stray: Stray, before: usize, states: usize) -> Stray
 /// lines `# connection` before them. Each is read as a fresh one, and so is the primary's record;
 /// but behind a line `# connection since TOKEN` it goes on where those before it ended, whose last
 /// state's token that has to be. What is left of the screen's record is read once.
-pub fn audit_record<P: Replayed, L: Skipped>(
+pub(crate) fn audit_record<P: Replayed, L: Skipped>(
     alloc: Global,
     limits: Limits,
     primary: &mut P,
     screen: &mut ScreenLines<L>,
+    sides: &mut Sides,
 ) -> Result<Verdict, AuditFault>
+    requires { sides.old.theirs ≡ new_mirror limits }
     ensures ok { (text record_ : List ℕ) → P.whole primary.old ≡ Some text
         → L.left (source_of screen.old) ≡ Some record_
+        → IsBeside limits text (P.left primary.old) sides.old.ours sides.old.theirs
         → IfOk result (IsRecordVerdict limits text record_) }
     ensures err { (text record_ : List ℕ) → P.whole primary.old ≡ Some text
         → L.left (source_of screen.old) ≡ Some record_
+        → IsBeside limits text (P.left primary.old) sides.old.ours sides.old.theirs
         → IfErr result (FailsToAuditRecord limits text record_) }
+    ensures beside { (text record_ : List ℕ) → P.whole primary.old ≡ Some text
+        → L.left (source_of screen.old) ≡ Some record_
+        → IsBeside limits text (P.left primary.old) sides.old.ours sides.old.theirs
+        → IfOk result (λ verdict. IfAgrees verdict
+        (IsBeside limits text (P.left primary.new) sides.new.ours sides.new.theirs)) }
     ensures whole { P.whole primary.new ≡ P.whole primary.old }
     ensures unread { IfErr result
         (IsUnread (P.unread primary.new) (L.unread (source_of screen.new))) }
 {
-    let mut mirror = Mirror::new(alloc, limits)?;
     let mut opened = Opened::feed(None);
     let mut before: usize = 0;
     let mut states: usize = 0;
     'connections: loop {
         screen.begin();
-        match audit_connection(alloc, limits, primary, screen, &opened, &mut mirror) {
+        match audit_connection(alloc, limits, primary, screen, &opened, sides) {
             Err(fault) => return Err(fault_behind(fault, before)),
             Ok(Verdict::Strays(stray)) => {
                 return Ok(Verdict::Strays(stray_behind(stray, before, states)));

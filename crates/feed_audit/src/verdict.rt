@@ -21,6 +21,18 @@ pub enum Verdict {
     Strays(Stray),
 }
 
+/// What a comparison of two records found.
+#[derive(Drop)]
+pub enum Comparison {
+    /// The screen's record publishes nothing.
+    Unpublished,
+    /// Each state of the screen's record is one of the primary's. The screen's has this many, and
+    /// the primary's has that many; `usize::MAX` where they are more.
+    Agrees { states: usize, primary: usize },
+    /// This is the first that is none of the primary's.
+    Strays(Stray),
+}
+
 /// A state of the screen's record that the primary's doesn't have.
 #[derive(Drop)]
 pub struct Stray {

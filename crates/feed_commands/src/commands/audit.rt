@@ -9,7 +9,7 @@ ghost use Rattle.feed_http.specs.Device.{AppendsPrefix, HasFailed};
 use crate::fault::Fault;
 use crate::input::read_within;
 use feed_arguments::AuditOptions;
-use feed_audit::{Difference, Stray, Verdict, audit_record, count_states};
+use feed_audit::{Comparison, Difference, Stray, compare};
 use feed_http::device::{FeedRead, FeedWrite, write_all};
 use feed_records::{Replayed, ScreenLines, Skipped};
 use feed_verdicts::{print_agreement, print_agreement_json, print_stray, print_stray_json};
@@ -115,14 +115,16 @@ pub fn print_verdict<P: Replayed, L: Skipped, W: FeedWrite>(
     ensures quiet { ¬ (IsErrOf result Fault.Write)
         → W.failures out.new ≡ W.failures out.old }
 {
-    match audit_record(alloc, options.limits, primary, screen)? {
-        Verdict::Agrees(0) => Err(Fault::Unpublished),
-        Verdict::Agrees(states) => {
-            let all = count_states(alloc, options.limits, primary)?;
+    match compare(alloc, options.limits, primary, screen)? {
+        Comparison::Unpublished => Err(Fault::Unpublished),
+        Comparison::Agrees {
+            states,
+            primary: all,
+        } => {
             let text = agreement(alloc, options.json, states, all)?;
             print_text(text.as_slice(), out)
         }
-        Verdict::Strays(stray) => {
+        Comparison::Strays(stray) => {
             let text = strayed(alloc, options.json, options.verbose, &stray)?;
             print_text(text.as_slice(), out)?;
             Err(fault_of(&stray.difference))
