@@ -5,7 +5,7 @@ use Rattle.feed_settings.specs.Limits.{Limits}
 use Rattle.feed_node.specs.Publishing.{Published}
 use Rattle.feed_node.specs.Mirroring.{MirrorState, mirror_after, new_mirror, present_opening}
 use Rattle.feed_node.specs.Reading.{Opening}
-use Rattle.feed_audit.specs.Answers.{AgreementFrom, StrayingFrom, PrimaryFaults, ScreenFaults, IsVerdictFrom, IsVerdictOn, FailsFrom, begun_by}
+use Rattle.feed_audit.specs.Answers.{AgreementFrom, StrayingFrom, PrimaryFaults, ScreenFaults, IsVerdictFrom, IsVerdictOn, IfAgrees, FailsFrom, begun_by}
 use Rattle.feed_records.specs.Connections.{Recorded, is_chunked}
 use Rattle.feed_audit.specs.Reaching.{IsFeedVerdict, IsPartVerdict, FailsInBody}
 use Rattle.feed_audit.specs.Records.{FailsToAuditRecord, MayGoOn, opening_of}
@@ -84,7 +84,6 @@ unread_record limits primary screen (fault.PrimaryUnread why) h = absurd h
 unread_record limits primary screen (fault.ScreenUnread why) h = h
 unread_record limits primary screen fault.Memory h = tt
 
--- what the chosen mirror shows
-pub shown_on : (limits : Limits) (P : Published → Type 0) (old new : MirrorState) → (new ≡ old) ⊎ (new ≡ new_mirror limits) → IfSome old.node.published P → IfSome new.node.published P
-shown_on limits P old new (inl same) h = subst (λ m. IfSome m.node.published P) (sym same) h
-shown_on limits P old new (inr is) h = subst (λ m. IfSome m.node.published P) (sym is) tt
+-- what is so where a text agrees
+pub beside_on : {P : Type 0} (v : Verdict) (n : ℕ) → v ≡ verdict.Agrees n → IfAgrees v P → P
+beside_on {P} v n is h = subst (λ v. IfAgrees v P) is h

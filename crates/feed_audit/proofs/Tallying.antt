@@ -9,34 +9,31 @@ use Rattle.feed_node.specs.declared.fault.FeedFault.TheVariants as feed
 use Rattle.feed_audit.specs.declared.verdict.AuditFault.{AuditFault}
 use Rattle.feed_audit.specs.declared.verdict.AuditFault.TheVariants as failed
 use Rattle.feed_audit.specs.Answers.{HasStates, FailsToCount}
-use Rattle.feed_audit.specs.States.{afresh}
+use Rattle.feed_audit.specs.States.{Start, afresh}
 use Rattle.feed_audit.specs.Stops.{primary_fault, IsUnreadPrimary}
-use Rattle.feed_audit.specs.Walks.{Walked, ReadsMore, GoesToEnd, StopsReading}
+use Rattle.feed_audit.specs.Walks.{Walked, Counts, ReadsMore, GoesToEnd, StopsReading}
 use Rattle.feed_audit.specs.declared.stop.Stop.{Stop}
 use Rattle.feed_audit.specs.declared.stop.Stop.TheVariants as stopped
 use Rattle.feed_records.specs.declared.reading.Unread.TheVariants as unread
 use Rattle.feed_audit.proofs.Agreeing.{good_of, all_lines}
 
--- the text was read so far, and its states are counted
-pub record Counts (limits : Limits) (text behind : List ℕ) (count states : ℕ) (mirror : MirrorState) : Type 0 where
-  pub notes : List Line
-  pub walked : Walked (afresh limits) text behind notes count mirror
-  pub counted : states ≡ min (publications limits.history first_opening notes) 18446744073709551615
+-- nothing was read
+pub counts_none : (limits : Limits) (text : List ℕ) (lines states : ℕ) (mirror : MirrorState) → Walked (afresh limits) text text [] lines mirror → states ≡ 0
+    → Counts (afresh limits) text text lines states mirror
+counts_none limits text lines states mirror w none = record { notes = []; walked = w; counted = none }
 
-pub counts_none : (limits : Limits) (text : List ℕ) (mirror : MirrorState) → Walked (afresh limits) text text [] 0 mirror → Counts limits text text 0 0 mirror
-counts_none limits text mirror w = record { notes = []; walked = w; counted = refl }
-
-pub counts_on : (limits : Limits) (text left behind : List ℕ) (count new_count states new_states : ℕ) (old new : MirrorState)
-    (a : Counts limits text left count states old) → ReadsMore (afresh limits) text behind a.notes new_count new → new_states ≡ min (states + 1) 18446744073709551615
-    → Counts limits text behind new_count new_states new
-counts_on limits text left behind count new_count states new_states old new a g more = record {
+-- one state more
+pub counts_on : (start : Start) (text left behind : List ℕ) (count new_count states new_states : ℕ) (old new : MirrorState)
+    (a : Counts start text left count states old) → ReadsMore start text behind a.notes new_count new → new_states ≡ min (states + 1) 18446744073709551615
+    → Counts start text behind new_count new_states new
+counts_on start text left behind count new_count states new_states old new a g more = record {
   notes = a.notes ++ (g.before ++ g.note ∷ []);
   walked = g.walked;
   counted = let one = g.counted in let before = a.counted in omega arith;
 }
 
 pub counts_all : (limits : Limits) (text left : List ℕ) (count new_count states : ℕ) (old new : MirrorState)
-    (a : Counts limits text left count states old) → GoesToEnd (afresh limits) text a.notes new_count new → HasStates limits text states
+    (a : Counts (afresh limits) text left count states old) → GoesToEnd (afresh limits) text a.notes new_count new → HasStates limits text states
 counts_all limits text left count new_count states old new a g =
     let w = g.passes.walked in
     let notes = a.notes ++ g.passes.more in

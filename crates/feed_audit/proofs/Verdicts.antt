@@ -82,16 +82,16 @@ shown_after start primary screen states a mirror left =
       shown = sym (ap (λ m. m.node.published) left) ∙ e;
     }))
 
-pub agrees_on : (start : Start) (primary screen left behind our_behind : List ℕ) (count new_count our_count states new_states : ℕ) (old new ours : MirrorState) (wanted : NodeState)
+pub agrees_on : (start : Start) (primary screen left behind our_behind : List ℕ) (count new_count our_count our_states states new_states : ℕ) (old new ours : MirrorState) (wanted : NodeState)
     (a : Agrees start primary screen left count states old) → ReadsMore start screen behind a.notes new_count new → wanted ≡ new.node
-    → Finds (afresh start.limits) primary our_behind our_count ours wanted → new_states ≡ min (states + 1) 18446744073709551615
+    → Finds (afresh start.limits) primary our_behind our_count our_states ours wanted → new_states ≡ min (states + 1) 18446744073709551615
     → Agrees start primary screen behind new_count new_states new
-agrees_on start primary screen left behind our_behind count new_count our_count states new_states old new ours wanted a g is f more = record {
+agrees_on start primary screen left behind our_behind count new_count our_count our_states states new_states old new ours wanted a g is f more = record {
   notes = a.notes ++ (g.before ++ g.note ∷ []);
   walked = g.walked;
   all = all_goes start (IsStateOf start.limits primary) screen behind a.notes new_count new a.all g
       (found_state start.limits primary new.node.published
-      (λ state e. state_of (afresh start.limits) primary our_behind f.notes our_count ours state f.walked (f.same ∙ ap (λ (n : NodeState). n.published) is ∙ e)));
+      (λ state e. state_of (afresh start.limits) primary our_behind f.counts.notes our_count ours state f.counts.walked (f.same ∙ ap (λ (n : NodeState). n.published) is ∙ e)));
   counted = let one = g.counted in let before = a.counted in omega arith;
 }
 
@@ -102,6 +102,19 @@ meets_now since ours theirs e f same known = record {
   ours_are = ap tables_or_none same ∙ ap (after_all (published_tables theirs)) (sym e);
   theirs_are = ap (after_all (published_tables theirs)) (sym f);
 }
+
+-- at the end of a connection the mirror shows what it showed before
+pub still_since : (start : Start) (screen left : List ℕ) (notes : List Line) (count new_count : ℕ) (old new : MirrorState) (since : Since) (ours : NodeState)
+    → Walked start screen left notes count old → GoesToEnd start screen notes new_count new → IsSince since ours old.node → IsSince since ours new.node
+still_since start screen left notes count new_count old new since ours w g h known =
+    let m = h known in
+    record { base = m.base; ours_are = m.ours_are; theirs_are = ap tables_or_none (still_shown start screen left notes count new_count old new w g) ∙ m.theirs_are }
+  where
+    still_shown : (start : Start) (screen left : List ℕ) (notes : List Line) (count new_count : ℕ) (old new : MirrorState)
+        → Walked start screen left notes count old → GoesToEnd start screen notes new_count new → new.node.published ≡ old.node.published
+    still_shown start screen left notes count new_count old new w g =
+        published_is start screen g.behind (notes ++ g.passes.more) new_count new g.passes.walked ∙ g.passes.quiet g.passes.more [] (sym (append-nil g.passes.more))
+        ∙ sym (published_is start screen left notes count old w)
 
 -- ---- a state that is none of the primary's
 

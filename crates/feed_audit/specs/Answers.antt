@@ -1,5 +1,5 @@
 -- What an audit answers.
-use Rattle.std.specs.Prelude.{◌≡◌, ◌≢◌, ℕ, ◌+◌, min, Option, Some, List, [], ◌∷◌, ◌++◌, length, IfSome}
+use Rattle.std.specs.Prelude.{◌≡◌, ◌≢◌, ℕ, ◌+◌, min, Option, Some, List, [], ◌∷◌, ◌++◌, length, IfSome, false}
 use Rattle.feed_settings.specs.Limits.{Limits}
 use Rattle.feed_note.specs.Lines.{lines, ended}
 use Rattle.feed_node.specs.Publishing.{Published}
@@ -143,6 +143,14 @@ pub record StartsReading (limits : Limits) (text : List ℕ) (left : Option (Lis
     (mirror : MirrorState) : Type 0 where
   pub whole : left ≡ Some text
   pub walked : Walked (afresh limits) text text [] 0 mirror
+
+-- so it is of the primary's text, of which nothing was read, and both sides never showed the same
+pub record StartsOurs (limits : Limits) (text : List ℕ) (left : Option (List ℕ))
+    (ours : Ours) : Type 0 where
+  pub whole : left ≡ Some text
+  pub walked : Walked (afresh limits) text text [] ours.lines ours.mirror
+  pub none : ours.states ≡ 0
+  pub apart : ours.since.is_known ≡ false
 
 -- what the node shows is no state of the text
 abbrev pub IsStrange : Limits → List ℕ → NodeState → Type 0

@@ -1,43 +1,37 @@
 use Rattle.std.proofs.Common.{◌≡◌, ℕ, List, Some, refl, sym, ap, ◌∙◌, subst, [], true, arith, rules}
-use Rattle.std.specs.Prelude.{IfSome}
 use Rattle.std.proofs.lemmas.Result.{err_from_is_err_and}
 use Rattle.feed_node.specs.States.{NodeState, published_token}
-use Rattle.feed_audit.specs.Answers.{FailsFrom, begun_by}
+use Rattle.feed_audit.specs.Answers.{FailsFrom, IsBeside, begun_by}
 use Rattle.feed_records.specs.Fronts.{IsLeft}
-use Rattle.feed_audit.specs.States.{Start, afresh, IsStateOf}
+use Rattle.feed_audit.specs.States.{Start, afresh}
 use Rattle.feed_audit.specs.Stops.{IsUnread}
-use Rattle.feed_audit.specs.Walks.{CommitsOn, IsNextState, Finds}
-use Rattle.feed_audit.proofs.Agreeing.{walked_begun, since_unknown, screen_stops}
-use Rattle.feed_audit.proofs.Missing.{unread_fails, locate_fails}
+use Rattle.feed_audit.specs.Walks.{CommitsOn, IsNextState, IsSince, Finds}
+use Rattle.feed_audit.proofs.Agreeing.{walked_begun, screen_stops}
+use Rattle.feed_audit.proofs.Missing.{locate_fails}
 use Rattle.feed_audit.proofs.Unreading.{screen_unread}
-use Rattle.feed_audit.proofs.Verdicts.{Agrees, agrees_none, agreement, agrees_on, meets_now, straying}
+use Rattle.feed_audit.proofs.Verdicts.{Agrees, agrees_none, agreement, agrees_on, meets_now, shown_after, still_since, straying}
 use Rattle.feed_audit.proofs.auditing.audit_on.Goals as goal
 
 pub states-init : goal.states-init
 states-init g c = record {
-  ours = λ text body is at shown. let s = c.in_ok-mirror.ensures.ok text is in (text, s.whole, ([], s.walked));
-  theirs = λ text body is at shown. (
+  ours = λ text body is at beside. beside.read;
+  theirs = λ text body is at beside. (
     body,
     at,
-    agrees_none _ _ _ _ shown (walked_begun c.args.limits body c.args.theirs.now _ c.begin.ensures.stands (c.begin.ensures.limits ∙ c.requires)),
+    agrees_none _ _ _ _ beside.shown (walked_begun c.args.limits body c.args.sides.now.theirs _ c.begin.ensures.stands (c.begin.ensures.limits ∙ c.requires)),
   );
-  since = λ text body is at shown. since_unknown _ _ _ c.unknown-since.ensures;
-  beyond = λ text body is at shown end e. e;
+  since = λ text body is at beside. subst (λ n. IsSince c.args.sides.now.ours.since c.args.sides.now.ours.mirror.node n) (sym c.begin.ensures.node) beside.since;
+  beyond = λ text body is at beside end e. e;
   within = omega arith;
   limits = c.begin.ensures.limits ∙ c.requires;
-  whole = c.read_again.ensures.whole;
+  whole = refl;
 }
 
-pub returns-in_err-mirror-clause-err : goal.returns-in_err-mirror-clause-err
-returns-in_err-mirror-clause-err g c text body is at shown =
-    let e = err_from_is_err_and c.from_residual.result c.from_residual.ensures.1 in
-    rw (e.1, e.2) (unread_fails (begun_by c.args.limits c.args.theirs.now) text body _ c.in_err-mirror.ensures.err)
-
 pub returns-then-not-branch-clause-ok : goal.returns-then-not-branch-clause-ok
-returns-then-not-branch-clause-ok g c text body is at shown =
-    let a = c.states.invariant.theirs text body is at shown in
-    let start = begun_by c.args.limits c.args.theirs.now in
-    let next = subst (λ found. IsNextState found start body (g.L.Lines.left c.next_state.new.text) a.2.notes c.next_state.new.lines c.states.theirs c.next_state.new.mirror) c.in-Ok-true.field-0-test
+returns-then-not-branch-clause-ok g c text body is at beside =
+    let a = c.states.invariant.theirs text body is at beside in
+    let start = begun_by c.args.limits c.args.sides.now.theirs in
+    let next = subst (λ found. IsNextState found start body (g.L.Lines.left c.next_state.new.text) a.2.notes c.next_state.new.lines c.states.sides.theirs c.next_state.new.mirror) c.in-Ok-true.field-0-test
     (c.in-Ok-true.ensures.ok start body a.0 a.2.notes a.1 a.2.walked) in
     let strange = c.in_ok-locate-in-Ok-true.ensures.none text (c.states.invariant.whole ∙ is) c.if-not-branch.true in
     straying c.line_laws.ensures.one_meaning start text body _ next.0.0 _ _ _ c.next_state.new.mirror
@@ -45,9 +39,9 @@ returns-then-not-branch-clause-ok g c text body is at shown =
     c.node-wanted.result.now.shown c.node-wanted.ensures.node c.in_ok-before.before (c.in_ok-before.ensures ∙ ap published_token c.node.ensures.node) (c.in_ok-difference-in-Ok-true.ensures.ok text (c.locate.ensures.whole ∙ (c.states.invariant.whole ∙ is)) strange) refl
 
 pub returns-in-Err-clause-err : goal.returns-in-Err-clause-err
-returns-in-Err-clause-err g c text body is at shown =
-    let a = c.states.invariant.theirs text body is at shown in
-    let start = begun_by c.args.limits c.args.theirs.now in
+returns-in-Err-clause-err g c text body is at beside =
+    let a = c.states.invariant.theirs text body is at beside in
+    let start = begun_by c.args.limits c.args.sides.now.theirs in
     subst (FailsFrom start text body) (sym c.of_screen.ensures)
     (screen_stops start text body a.2.notes a.2.all c.in-Err.stop c.next_state.new.lines (c.in-Err.ensures.err start body a.0 a.2.notes a.1 a.2.walked))
 
@@ -57,85 +51,98 @@ returns-in-Err-clause-unread g c =
     (screen_unread (g.P.Lines.unread c.states.primary) (g.L.Lines.unread c.next_state.new.text) c.in-Err.stop c.next_state.new.lines (λ why e. c.in-Err.ensures.unread why (search rules)))
 
 pub returns-in-Ok-false-clause-ok : goal.returns-in-Ok-false-clause-ok
-returns-in-Ok-false-clause-ok g c text body is at shown =
-    let a = c.states.invariant.theirs text body is at shown in
-    let start = begun_by c.args.limits c.args.theirs.now in
+returns-in-Ok-false-clause-ok g c text body is at beside =
+    let a = c.states.invariant.theirs text body is at beside in
+    let start = begun_by c.args.limits c.args.sides.now.theirs in
     agreement c.line_laws.ensures.one_meaning _ _ _ _ _ _ _ _ _ a.2
-    (subst (λ found. IsNextState found start body (g.L.Lines.left c.next_state.new.text) a.2.notes c.next_state.new.lines c.states.theirs c.next_state.new.mirror) c.in-Ok-false.field-0-test
+    (subst (λ found. IsNextState found start body (g.L.Lines.left c.next_state.new.text) a.2.notes c.next_state.new.lines c.states.sides.theirs c.next_state.new.mirror) c.in-Ok-false.field-0-test
     (c.in-Ok-false.ensures.ok start body a.0 a.2.notes a.1 a.2.walked))
 
+pub returns-in-Ok-false-clause-beside : goal.returns-in-Ok-false-clause-beside
+returns-in-Ok-false-clause-beside g c text body is at beside =
+    let a = c.states.invariant.theirs text body is at beside in
+    let start = begun_by c.args.limits c.args.sides.now.theirs in
+    let end = subst (λ found. IsNextState found start body (g.L.Lines.left c.next_state.new.text) a.2.notes c.next_state.new.lines c.states.sides.theirs c.next_state.new.mirror) c.in-Ok-false.field-0-test
+    (c.in-Ok-false.ensures.ok start body a.0 a.2.notes a.1 a.2.walked) in
+    let all = agreement c.line_laws.ensures.one_meaning _ _ _ _ _ _ _ _ _ a.2 end in
+    record {
+      read = c.states.invariant.ours text body is at beside;
+      since = still_since _ _ _ _ _ _ _ _ _ _ a.2.walked end (c.states.invariant.since text body is at beside);
+      shown = shown_after _ _ _ _ all.0 _ all.1;
+    }
+
 pub returns-in_err-locate-in-Ok-true-clause-err : goal.returns-in_err-locate-in-Ok-true-clause-err
-returns-in_err-locate-in-Ok-true-clause-err g c text body is at shown =
+returns-in_err-locate-in-Ok-true-clause-err g c text body is at beside =
     let e = err_from_is_err_and c.from_residual-in_err-locate-in-Ok-true.result c.from_residual-in_err-locate-in-Ok-true.ensures.1 in
-    let start = begun_by c.args.limits c.args.theirs.now in
-    let a = c.states.invariant.theirs text body is at shown in
-    let next = subst (λ found. IsNextState found start body (g.L.Lines.left c.next_state.new.text) a.2.notes c.next_state.new.lines c.states.theirs c.next_state.new.mirror) c.in-Ok-true.field-0-test
+    let start = begun_by c.args.limits c.args.sides.now.theirs in
+    let a = c.states.invariant.theirs text body is at beside in
+    let next = subst (λ found. IsNextState found start body (g.L.Lines.left c.next_state.new.text) a.2.notes c.next_state.new.lines c.states.sides.theirs c.next_state.new.mirror) c.in-Ok-true.field-0-test
     (c.in-Ok-true.ensures.ok start body a.0 a.2.notes a.1 a.2.walked) in
     rw (e.1, e.2)
     (locate_fails start text body _ _ _ c.next_state.new.mirror c.node-wanted.result.now.shown _ next.0.2.walked next.1.some c.node-wanted.ensures.node
     (c.in_err-locate-in-Ok-true.ensures.err text (c.states.invariant.whole ∙ is)))
 
 pub returns-in_err-difference-in-Ok-true-clause-err : goal.returns-in_err-difference-in-Ok-true-clause-err
-returns-in_err-difference-in-Ok-true-clause-err g c text body is at shown =
+returns-in_err-difference-in-Ok-true-clause-err g c text body is at beside =
     let e = err_from_is_err_and c.from_residual-in_err-difference-in-Ok-true.result c.from_residual-in_err-difference-in-Ok-true.ensures.1 in
-    let start = begun_by c.args.limits c.args.theirs.now in
-    let a = c.states.invariant.theirs text body is at shown in
-    let next = subst (λ found. IsNextState found start body (g.L.Lines.left c.next_state.new.text) a.2.notes c.next_state.new.lines c.states.theirs c.next_state.new.mirror) c.in-Ok-true.field-0-test
+    let start = begun_by c.args.limits c.args.sides.now.theirs in
+    let a = c.states.invariant.theirs text body is at beside in
+    let next = subst (λ found. IsNextState found start body (g.L.Lines.left c.next_state.new.text) a.2.notes c.next_state.new.lines c.states.sides.theirs c.next_state.new.mirror) c.in-Ok-true.field-0-test
     (c.in-Ok-true.ensures.ok start body a.0 a.2.notes a.1 a.2.walked) in
     rw (e.1, e.2)
     (locate_fails start text body _ _ _ c.next_state.new.mirror c.node-wanted.result.now.shown _ next.0.2.walked next.1.some c.node-wanted.ensures.node
     (c.in_err-difference-in-Ok-true.ensures.err text (c.locate.ensures.whole ∙ (c.states.invariant.whole ∙ is))))
 
 pub returns-then-not-branch-clause-beyond : goal.returns-then-not-branch-clause-beyond
-returns-then-not-branch-clause-beyond g c text body is at shown end e =
-    let a = c.states.invariant.theirs text body is at shown in
-    c.in-Ok-true.ensures.beyond (begun_by c.args.limits c.args.theirs.now) body a.0 a.2.notes a.1 a.2.walked end (c.states.invariant.beyond text body is at shown end e)
+returns-then-not-branch-clause-beyond g c text body is at beside end e =
+    let a = c.states.invariant.theirs text body is at beside in
+    c.in-Ok-true.ensures.beyond (begun_by c.args.limits c.args.sides.now.theirs) body a.0 a.2.notes a.1 a.2.walked end (c.states.invariant.beyond text body is at beside end e)
 
 pub returns-in-Ok-false-clause-beyond : goal.returns-in-Ok-false-clause-beyond
-returns-in-Ok-false-clause-beyond g c text body is at shown end e =
-    let a = c.states.invariant.theirs text body is at shown in
-    c.in-Ok-false.ensures.beyond (begun_by c.args.limits c.args.theirs.now) body a.0 a.2.notes a.1 a.2.walked end (c.states.invariant.beyond text body is at shown end e)
+returns-in-Ok-false-clause-beyond g c text body is at beside end e =
+    let a = c.states.invariant.theirs text body is at beside in
+    c.in-Ok-false.ensures.beyond (begun_by c.args.limits c.args.sides.now.theirs) body a.0 a.2.notes a.1 a.2.walked end (c.states.invariant.beyond text body is at beside end e)
 
 pub states-preserved : goal.states-preserved
 states-preserved g c = record {
-  ours = λ text body is at shown. let f = found text body is at shown in (f.0, f.1, (f.2.notes, f.2.walked));
+  ours = λ text body is at beside. let f = found text body is at beside in (f.0, f.1, f.2.counts);
   theirs = theirs;
-  since = λ text body is at shown.
-      let f = found text body is at shown in
+  since = λ text body is at beside.
+      let f = found text body is at beside in
       meets_now c.meet.new.self c.locate.new.ours.mirror.node c.next_state.new.mirror.node c.meet.ensures.ours c.meet.ensures.theirs
       (f.2.same ∙ ap (λ (n : NodeState). n.published) c.node-wanted.ensures.node);
-  beyond = λ text body is at shown end e.
-      let a = c.states.invariant.theirs text body is at shown in
-      c.in-Ok-true.ensures.beyond start body a.0 a.2.notes a.1 a.2.walked end (c.states.invariant.beyond text body is at shown end e);
+  beyond = λ text body is at beside end e.
+      let a = c.states.invariant.theirs text body is at beside in
+      c.in-Ok-true.ensures.beyond start body a.0 a.2.notes a.1 a.2.walked end (c.states.invariant.beyond text body is at beside end e);
   within = let n = c.in-Ok-true.ensures.room in omega (arith, c.states.invariant.within, n);
   limits = c.next_state.ensures.limits ∙ c.states.invariant.limits;
   whole = c.locate.ensures.whole ∙ c.states.invariant.whole;
 }
   where
     start : Start
-    start = begun_by c.args.limits c.args.theirs.now
+    start = begun_by c.args.limits c.args.sides.now.theirs
 
-    next : (text body : List ℕ) → g.P.Lines.whole c.args.primary.now ≡ Some text → g.L.Lines.left c.args.screen.now ≡ Some body → IfSome c.args.theirs.now.node.published (IsStateOf c.args.limits text)
-        → (a : IsLeft (g.L.Lines.left c.states.screen) (λ rest. Agrees start text body rest c.states.lines c.states.states c.states.theirs))
-        × IsNextState true start body (g.L.Lines.left c.next_state.new.text) a.2.notes c.next_state.new.lines c.states.theirs c.next_state.new.mirror
-    next text body is at shown =
-        let a = c.states.invariant.theirs text body is at shown in (
+    next : (text body : List ℕ) → g.P.Lines.whole c.args.primary.now ≡ Some text → g.L.Lines.left c.args.screen.now ≡ Some body → IsBeside c.args.limits text (g.P.Lines.left c.args.primary.now) c.args.sides.now.ours c.args.sides.now.theirs
+        → (a : IsLeft (g.L.Lines.left c.states.screen) (λ rest. Agrees start text body rest c.states.lines c.states.states c.states.sides.theirs))
+        × IsNextState true start body (g.L.Lines.left c.next_state.new.text) a.2.notes c.next_state.new.lines c.states.sides.theirs c.next_state.new.mirror
+    next text body is at beside =
+        let a = c.states.invariant.theirs text body is at beside in (
           a,
-          subst (λ found. IsNextState found start body (g.L.Lines.left c.next_state.new.text) a.2.notes c.next_state.new.lines c.states.theirs c.next_state.new.mirror) c.in-Ok-true.field-0-test
+          subst (λ found. IsNextState found start body (g.L.Lines.left c.next_state.new.text) a.2.notes c.next_state.new.lines c.states.sides.theirs c.next_state.new.mirror) c.in-Ok-true.field-0-test
               (c.in-Ok-true.ensures.ok start body a.0 a.2.notes a.1 a.2.walked),
         )
 
-    found : (text body : List ℕ) → g.P.Lines.whole c.args.primary.now ≡ Some text → g.L.Lines.left c.args.screen.now ≡ Some body → IfSome c.args.theirs.now.node.published (IsStateOf c.args.limits text)
-        → IsLeft (g.P.Lines.left c.locate.new.primary) (λ behind. Finds (afresh c.args.limits) text behind c.locate.new.ours.lines c.locate.new.ours.mirror c.node-wanted.result.now.shown)
-    found text body is at shown =
-        let n = next text body is at shown in
-        let known = c.in_ok-note_theirs-in-Ok-true.ensures c.states.ours.mirror.node c.states.theirs.node (c.states.invariant.since text body is at shown)
-        (subst (λ n. CommitsOn c.states.theirs.node n) (sym c.node-wanted.ensures.node) n.1.1) in
-        c.in_ok-locate-in-Ok-true.ensures.some text (c.states.invariant.whole ∙ is) (c.states.invariant.ours text body is at shown) known c.if-not-branch.false
+    found : (text body : List ℕ) → g.P.Lines.whole c.args.primary.now ≡ Some text → g.L.Lines.left c.args.screen.now ≡ Some body → IsBeside c.args.limits text (g.P.Lines.left c.args.primary.now) c.args.sides.now.ours c.args.sides.now.theirs
+        → IsLeft (g.P.Lines.left c.locate.new.primary) (λ behind. Finds (afresh c.args.limits) text behind c.locate.new.ours.lines c.locate.new.ours.states c.locate.new.ours.mirror c.node-wanted.result.now.shown)
+    found text body is at beside =
+        let n = next text body is at beside in
+        let known = c.in_ok-note_theirs-in-Ok-true.ensures c.states.sides.ours.mirror.node c.states.sides.theirs.node (c.states.invariant.since text body is at beside)
+        (subst (λ n. CommitsOn c.states.sides.theirs.node n) (sym c.node-wanted.ensures.node) n.1.1) in
+        c.in_ok-locate-in-Ok-true.ensures.some text (c.states.invariant.whole ∙ is) (c.states.invariant.ours text body is at beside) known c.if-not-branch.false
 
-    theirs : (text body : List ℕ) → g.P.Lines.whole c.args.primary.now ≡ Some text → g.L.Lines.left c.args.screen.now ≡ Some body → IfSome c.args.theirs.now.node.published (IsStateOf c.args.limits text)
+    theirs : (text body : List ℕ) → g.P.Lines.whole c.args.primary.now ≡ Some text → g.L.Lines.left c.args.screen.now ≡ Some body → IsBeside c.args.limits text (g.P.Lines.left c.args.primary.now) c.args.sides.now.ours c.args.sides.now.theirs
         → IsLeft (g.L.Lines.left c.next_state.new.text) (λ rest. Agrees start text body rest c.next_state.new.lines c.saturating_add-states.result c.next_state.new.mirror)
-    theirs text body is at shown =
-        let n = next text body is at shown in
-        let f = found text body is at shown in
-        (n.1.0.0, n.1.0.1, agrees_on _ _ _ _ _ _ _ _ _ _ _ _ _ _ _ n.0.2 n.1.0.2 c.node-wanted.ensures.node f.2 c.saturating_add-states.ensures)
+    theirs text body is at beside =
+        let n = next text body is at beside in
+        let f = found text body is at beside in
+        (n.1.0.0, n.1.0.1, agrees_on _ _ _ _ _ _ _ _ _ _ _ _ _ _ _ _ n.0.2 n.1.0.2 c.node-wanted.ensures.node f.2 c.saturating_add-states.ensures)

@@ -6,12 +6,12 @@ use Rattle.feed_audit.proofs.Unreading.{primary_unread}
 use Rattle.feed_audit.proofs.auditing.find_behind.Goals as goal
 
 pub returns-in-Ok-clause-some : goal.returns-in-Ok-clause-some
-returns-in-Ok-clause-some g c start all behind notes is w since = c.in-Ok.ensures.some start all behind notes is w since
+returns-in-Ok-clause-some g c start all behind is w since = c.in-Ok.ensures.some start all behind is w since
 
 pub returns-in-Err-Unread-clause-err : goal.returns-in-Err-Unread-clause-err
-returns-in-Err-Unread-clause-err g c = subst IsUnreadPrimary (sym c.of_primary.ensures) (unread_primary c.in-Err-Unread.why c.find.new.lines)
+returns-in-Err-Unread-clause-err g c = subst IsUnreadPrimary (sym c.of_primary.ensures) (unread_primary c.in-Err-Unread.why c.find.new.ours.lines)
 
 pub returns-in-Err-Unread-clause-unread : goal.returns-in-Err-Unread-clause-unread
 returns-in-Err-Unread-clause-unread g c =
     subst (IsUnread (g.P.Lines.unread c.find.new.text) (λ _. ⊥)) (sym c.of_primary.ensures)
-    (primary_unread (g.P.Lines.unread c.find.new.text) (λ _. ⊥) (stopped.Unread c.in-Err-Unread.why) c.find.new.lines (λ why e. c.in-Err-Unread.ensures.unread why (search rules)))
+    (primary_unread (g.P.Lines.unread c.find.new.text) (λ _. ⊥) (stopped.Unread c.in-Err-Unread.why) c.find.new.ours.lines (λ why e. c.in-Err-Unread.ensures.unread why (search rules)))

@@ -3,6 +3,7 @@ use Rattle.std.proofs.lemmas.Result.{err_from_is_err_and}
 use Rattle.feed_audit.specs.Answers.{FailsToLocate}
 use Rattle.feed_audit.specs.States.{afresh}
 use Rattle.feed_audit.proofs.Agreeing.{strange, since_unknown}
+use Rattle.feed_audit.proofs.Tallying.{counts_none}
 use Rattle.feed_audit.proofs.Missing.{locate_unread, locate_stops}
 use Rattle.feed_audit.proofs.auditing.locate.Goals as goal
 
@@ -11,27 +12,27 @@ returns-in_err-find_behind-clause-err g c text is =
     let e = err_from_is_err_and c.from_residual.result c.from_residual.ensures.1 in
     rw (e.1, e.2) (locate_unread c.args.limits text c.args.wanted.now.shown _ c.in_err-find_behind.ensures.err)
 
-pub returns-in_err-again-clause-err : goal.returns-in_err-again-clause-err
-returns-in_err-again-clause-err g c text is =
-    let e = err_from_is_err_and c.from_residual-in_err-again.result c.from_residual-in_err-again.ensures.1 in
-    rw (e.1, e.2) (locate_unread c.args.limits text c.args.wanted.now.shown _ c.in_err-again.ensures.err)
+pub returns-in_err-ours-clause-err : goal.returns-in_err-ours-clause-err
+returns-in_err-ours-clause-err g c text is =
+    let e = err_from_is_err_and c.from_residual-in_err-ours.result c.from_residual-in_err-ours.ensures.1 in
+    rw (e.1, e.2) (locate_unread c.args.limits text c.args.wanted.now.shown _ c.in_err-ours.ensures.err)
 
 pub returns-then-branch-clause-some : goal.returns-then-branch-clause-some
 returns-then-branch-clause-some g c text is read since found =
-    c.in_ok-find_behind.ensures.some (afresh c.args.limits) text read.0 read.2.0 read.1 read.2.1 since c.if-branch.true
+    c.in_ok-find_behind.ensures.some (afresh c.args.limits) text read.0 read.1 read.2 since c.if-branch.true
 
 pub returns-in-Ok-clause-some : goal.returns-in-Ok-clause-some
 returns-in-Ok-clause-some g c text is read since found =
-    let s = c.in_ok-again.ensures.ok text (c.find_behind.ensures.whole ∙ is) in
-    c.in-Ok.ensures.some (afresh c.args.limits) text text [] s.whole s.walked (since_unknown _ _ _ c.unknown.ensures) found
+    let s = c.in_ok-ours.ensures.ok text (c.find_behind.ensures.whole ∙ is) in
+    c.in-Ok.ensures.some (afresh c.args.limits) text text s.whole (counts_none _ _ _ _ _ s.walked s.none) (since_unknown _ _ _ s.apart) found
 
 pub returns-in-Ok-clause-none : goal.returns-in-Ok-clause-none
 returns-in-Ok-clause-none g c text is none =
-    let s = c.in_ok-again.ensures.ok text (c.find_behind.ensures.whole ∙ is) in
+    let s = c.in_ok-ours.ensures.ok text (c.find_behind.ensures.whole ∙ is) in
     strange c.line_laws.ensures.one_meaning c.args.limits text _ _ _ (c.in-Ok.ensures.none (afresh c.args.limits) text text [] s.whole s.walked none)
 
 pub returns-in-Err-clause-err : goal.returns-in-Err-clause-err
 returns-in-Err-clause-err g c text is =
-    let s = c.in_ok-again.ensures.ok text (c.find_behind.ensures.whole ∙ is) in
+    let s = c.in_ok-ours.ensures.ok text (c.find_behind.ensures.whole ∙ is) in
     subst (FailsToLocate c.args.limits text c.args.wanted.now.shown) (sym c.of_primary.ensures)
-    (locate_stops c.args.limits text c.args.wanted.now.shown c.in-Err.stop c.find.new.lines (c.in-Err.ensures.err (afresh c.args.limits) text text [] s.whole s.walked))
+    (locate_stops c.args.limits text c.args.wanted.now.shown c.in-Err.stop c.find.new.ours.lines (c.in-Err.ensures.err (afresh c.args.limits) text text [] s.whole s.walked))
