@@ -1,9 +1,7 @@
 -- A connection on the mirror that read those before it, or on a new one.
-use Rattle.std.proofs.Common.{◌≡◌, ◌≢◌, ◌⊎◌, inl, inr, refl, sym, subst, ℕ, List, [], Bool, true, false, true≢false}
-use Rattle.std.specs.Prelude.{IfSome}
+use Rattle.std.proofs.Common.{◌≡◌, ◌≢◌, refl, sym, subst, ℕ, List, [], Bool, true, false, true≢false}
 use Rattle.feed_settings.specs.Limits.{Limits}
-use Rattle.feed_node.specs.Publishing.{Published}
-use Rattle.feed_node.specs.Mirroring.{MirrorState, mirror_after, new_mirror, present_opening}
+use Rattle.feed_node.specs.Mirroring.{MirrorState, mirror_after, present_opening}
 use Rattle.feed_node.specs.Reading.{Opening}
 use Rattle.feed_audit.specs.Answers.{AgreementFrom, StrayingFrom, PrimaryFaults, ScreenFaults, IsVerdictFrom, IsVerdictOn, IfAgrees, FailsFrom, begun_by}
 use Rattle.feed_records.specs.Connections.{Recorded, is_chunked}

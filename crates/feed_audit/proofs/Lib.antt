@@ -5,10 +5,13 @@ pub mod Meeting
 mod Missing
 pub mod Ordered
 pub mod Parts
+pub mod Pasting
 pub mod Prefixes
+pub mod Reading
 pub mod Stepping
+pub mod TakingBack
 pub mod Tallying
 pub mod Tokens
 pub mod Unreading
-mod Verdicts
+pub mod Verdicts
 pub mod Walking

@@ -25,18 +25,18 @@ on_with : (base : Contents) (before new : NodeState) (changes items : List Chang
 on_with base before new changes items o is (commit, last, more) =
     o.commits commit last ∙ ap (λ t. after_all t commit.changes) is ∙ sym (fold-append after base changes commit.changes) ∙ ap (after_all base) (sym more)
 
-pub on_ours : (old new : Since) (before after theirs : NodeState) → Meets old before theirs → CommitsOn before after
+pub on_ours : (old new : Since) (before after theirs : NodeState) → Meets old (published_tables before) (published_tables theirs) → CommitsOn before after
     → (commit : Commit) × (last_item after.kept ≡ Some commit) × (new.ours.items ≡ old.ours.items ++ commit.changes)
-    → new.theirs.items ≡ old.theirs.items → Meets new after theirs
+    → new.theirs.items ≡ old.theirs.items → Meets new (published_tables after) (published_tables theirs)
 on_ours old new before after theirs m o more same = record {
   base = m.base;
   ours_are = on_with m.base before after old.ours.items new.ours.items o m.ours_are more;
   theirs_are = m.theirs_are ∙ ap (after_all m.base) (sym same);
 }
 
-pub on_theirs : (old new : Since) (ours before after : NodeState) → Meets old ours before → CommitsOn before after
+pub on_theirs : (old new : Since) (ours : Contents) (before after : NodeState) → Meets old ours (published_tables before) → CommitsOn before after
     → (commit : Commit) × (last_item after.kept ≡ Some commit) × (new.theirs.items ≡ old.theirs.items ++ commit.changes)
-    → new.ours.items ≡ old.ours.items → Meets new ours after
+    → new.ours.items ≡ old.ours.items → Meets new ours (published_tables after)
 on_theirs old new ours before after m o more same = record {
   base = m.base;
   ours_are = m.ours_are ∙ ap (after_all m.base) (sym same);

@@ -1,9 +1,9 @@
 -- How many states a text has that was read so far.
-use Rattle.std.proofs.Common.{◌≡◌, refl, sym, ap, ◌∙◌, subst, ℕ, ◌+◌, ◌≤◌, min, List, [], ◌∷◌, ◌++◌, length, arith}
+use Rattle.std.proofs.Common.{◌≡◌, sym, ap, ◌∙◌, subst, ℕ, ◌+◌, ◌≤◌, min, List, [], ◌∷◌, ◌++◌, length, arith}
 use Rattle.feed_settings.specs.Limits.{Limits}
 use Rattle.feed_note.specs.declared.line.Line.{Line}
 use Rattle.feed_text.specs.Limits.{line_bytes}
-use Rattle.feed_node.specs.Mirroring.{MirrorState, first_opening, publications}
+use Rattle.feed_node.specs.Mirroring.{MirrorState, first_opening}
 use Rattle.feed_node.specs.Reading.{AllGood}
 use Rattle.feed_node.specs.declared.fault.FeedFault.TheVariants as feed
 use Rattle.feed_audit.specs.declared.verdict.AuditFault.{AuditFault}

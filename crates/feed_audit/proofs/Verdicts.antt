@@ -16,9 +16,9 @@ use Rattle.feed_audit.specs.declared.since.Since.{Since}
 use Rattle.feed_audit.specs.declared.verdict.Stray.{Stray}
 use Rattle.feed_audit.specs.Answers.{AgreementFrom, StrayingFrom, IsStrange}
 use Rattle.feed_audit.specs.Differences.{Explains}
-use Rattle.feed_audit.specs.States.{Start, afresh, published_from, IsStateOf}
-use Rattle.feed_audit.specs.Walks.{Walked, ReadsMore, GoesToEnd, AllAre, IsSince, Finds}
-use Rattle.feed_audit.proofs.Agreeing.{agree_by, good_of, state_of, all_lines}
+use Rattle.feed_audit.specs.States.{Start, published_from, IsStateOf}
+use Rattle.feed_audit.specs.Walks.{Walked, ReadsMore, GoesToEnd, AllAre, IsSince}
+use Rattle.feed_audit.proofs.Agreeing.{agree_by, good_of, all_lines}
 use Rattle.feed_audit.proofs.Bringing.{brings}
 use Rattle.feed_audit.proofs.Walking.{all_end, all_goes, published_is}
 
@@ -64,7 +64,7 @@ agreement only start primary screen left count new_count states old new a g =
     )
 
 -- what was found is a state of the primary's
-found_state : (limits : Limits) (primary : List ℕ) (shown : Option Published) → ((state : Published) → shown ≡ Some state → IsStateOf limits primary state)
+pub found_state : (limits : Limits) (primary : List ℕ) (shown : Option Published) → ((state : Published) → shown ≡ Some state → IsStateOf limits primary state)
     → IfSome shown (IsStateOf limits primary)
 found_state limits primary None h = tt
 found_state limits primary (Some state) h = h state refl
@@ -82,16 +82,15 @@ shown_after start primary screen states a mirror left =
       shown = sym (ap (λ m. m.node.published) left) ∙ e;
     }))
 
-pub agrees_on : (start : Start) (primary screen left behind our_behind : List ℕ) (count new_count our_count our_states states new_states : ℕ) (old new ours : MirrorState) (wanted : NodeState)
+pub agrees_on : (start : Start) (primary screen left behind : List ℕ) (count new_count states new_states : ℕ) (old new : MirrorState) (wanted : NodeState)
     (a : Agrees start primary screen left count states old) → ReadsMore start screen behind a.notes new_count new → wanted ≡ new.node
-    → Finds (afresh start.limits) primary our_behind our_count our_states ours wanted → new_states ≡ min (states + 1) 18446744073709551615
+    → IfSome wanted.published (IsStateOf start.limits primary) → new_states ≡ min (states + 1) 18446744073709551615
     → Agrees start primary screen behind new_count new_states new
-agrees_on start primary screen left behind our_behind count new_count our_count our_states states new_states old new ours wanted a g is f more = record {
+agrees_on start primary screen left behind count new_count states new_states old new wanted a g is shown more = record {
   notes = a.notes ++ (g.before ++ g.note ∷ []);
   walked = g.walked;
   all = all_goes start (IsStateOf start.limits primary) screen behind a.notes new_count new a.all g
-      (found_state start.limits primary new.node.published
-      (λ state e. state_of (afresh start.limits) primary our_behind f.counts.notes our_count ours state f.counts.walked (f.same ∙ ap (λ (n : NodeState). n.published) is ∙ e)));
+      (subst (λ n. IfSome n.published (IsStateOf start.limits primary)) is shown);
   counted = let one = g.counted in let before = a.counted in omega arith;
 }
 
@@ -104,17 +103,11 @@ meets_now since ours theirs e f same known = record {
 }
 
 -- at the end of a connection the mirror shows what it showed before
-pub still_since : (start : Start) (screen left : List ℕ) (notes : List Line) (count new_count : ℕ) (old new : MirrorState) (since : Since) (ours : NodeState)
-    → Walked start screen left notes count old → GoesToEnd start screen notes new_count new → IsSince since ours old.node → IsSince since ours new.node
-still_since start screen left notes count new_count old new since ours w g h known =
-    let m = h known in
-    record { base = m.base; ours_are = m.ours_are; theirs_are = ap tables_or_none (still_shown start screen left notes count new_count old new w g) ∙ m.theirs_are }
-  where
-    still_shown : (start : Start) (screen left : List ℕ) (notes : List Line) (count new_count : ℕ) (old new : MirrorState)
-        → Walked start screen left notes count old → GoesToEnd start screen notes new_count new → new.node.published ≡ old.node.published
-    still_shown start screen left notes count new_count old new w g =
-        published_is start screen g.behind (notes ++ g.passes.more) new_count new g.passes.walked ∙ g.passes.quiet g.passes.more [] (sym (append-nil g.passes.more))
-        ∙ sym (published_is start screen left notes count old w)
+pub still_shown : (start : Start) (screen left : List ℕ) (notes : List Line) (count new_count : ℕ) (old new : MirrorState)
+    → Walked start screen left notes count old → GoesToEnd start screen notes new_count new → new.node.published ≡ old.node.published
+still_shown start screen left notes count new_count old new w g =
+    published_is start screen g.behind (notes ++ g.passes.more) new_count new g.passes.walked ∙ g.passes.quiet g.passes.more [] (sym (append-nil g.passes.more))
+    ∙ sym (published_is start screen left notes count old w)
 
 -- ---- a state that is none of the primary's
 

@@ -1,5 +1,5 @@
 -- What an audit answers.
-use Rattle.std.specs.Prelude.{◌≡◌, ◌≢◌, ℕ, ◌+◌, min, Option, Some, List, [], ◌∷◌, ◌++◌, length, IfSome, false}
+use Rattle.std.specs.Prelude.{◌≡◌, ◌≢◌, ℕ, ◌+◌, min, Option, None, Some, List, [], ◌∷◌, ◌++◌, length, IfSome, false}
 use Rattle.feed_settings.specs.Limits.{Limits}
 use Rattle.feed_note.specs.Lines.{lines, ended}
 use Rattle.feed_node.specs.Publishing.{Published}
@@ -12,7 +12,8 @@ use Rattle.feed_audit.specs.Differences.{Explains}
 use Rattle.feed_records.specs.Fronts.{IsLeft}
 use Rattle.feed_audit.specs.States.{Start, afresh, published_from, IsStateFrom, IsStateOf, AgreesFrom}
 use Rattle.feed_audit.specs.Stops.{IsOfRecord}
-use Rattle.feed_audit.specs.Walks.{Walked, Counts, AllAre, FaultsIn, FaultsFirst, IsSince}
+use Rattle.feed_audit.specs.Walks.{Walked, Counts, AllAre, FaultsIn, FaultsFirst}
+use Rattle.feed_audit.specs.Along.{IsAlong}
 use Rattle.feed_audit.specs.declared.ours.Ours.{Ours}
 use Rattle.feed_audit.specs.declared.verdict.AuditFault.{AuditFault}
 use Rattle.feed_audit.specs.declared.verdict.AuditFault.TheVariants as fault
@@ -151,6 +152,7 @@ pub record StartsOurs (limits : Limits) (text : List ℕ) (left : Option (List �
   pub walked : Walked (afresh limits) text text [] ours.lines ours.mirror
   pub none : ours.states ≡ 0
   pub apart : ours.since.is_known ≡ false
+  pub past : ours.past ≡ None
 
 -- what the node shows is no state of the text
 abbrev pub IsStrange : Limits → List ℕ → NodeState → Type 0
@@ -159,8 +161,11 @@ IsStrange limits text node =
 
 -- So far was the primary's text read where the screen's mirror shows this, which is one of the
 -- primary's states.
-pub record IsBeside (limits : Limits) (text : List ℕ) (left : Option (List ℕ)) (ours : Ours)
-    (theirs : MirrorState) : Type 0 where
+pub record Finds (limits : Limits) (text : List ℕ) (left : Option (List ℕ)) (ours : Ours)
+    (theirs : NodeState) : Type 0 where
   pub read : HasReadLines limits text left ours.lines ours.states ours.mirror
-  pub since : IsSince ours.since ours.mirror.node theirs.node
-  pub shown : IfSome theirs.node.published (IsStateOf limits text)
+  pub along : IsAlong limits text ours.since ours.past ours.mirror.node theirs
+  pub shown : IfSome theirs.published (IsStateOf limits text)
+
+abbrev pub IsBeside : Limits → List ℕ → Option (List ℕ) → Ours → MirrorState → Type 0
+IsBeside limits text left ours theirs = Finds limits text left ours theirs.node

@@ -1,5 +1,7 @@
+pub mod Along
 pub mod Answers
 pub mod Differences
+pub mod Pasts
 pub mod Places
 pub mod Reaching
 pub mod Records

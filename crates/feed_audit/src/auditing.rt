@@ -3,10 +3,11 @@
 ghost use Rattle.std.specs.Prelude.{◌≡◌, ◌≤◌, ℕ, List, IfOk, IfErr, OnOk, Some, true, false};
 ghost use Rattle.feed_node.specs.States.{published_token};
 ghost use Rattle.feed_node.specs.Mirroring.{new_mirror};
-ghost use Rattle.feed_audit.specs.Answers.{IsVerdict, IsVerdictOn, IfAgrees, IsBeside, begun_by, FailsFrom, FailsToAudit, FailsToLocate, HasReadLines, IsStrange};
-ghost use Rattle.feed_records.specs.Fronts.{IsLeft};
-ghost use Rattle.feed_audit.specs.States.{Start, afresh};
-ghost use Rattle.feed_audit.specs.Walks.{Counts, Finds, IsSince};
+ghost use Rattle.feed_audit.specs.Answers.{IsVerdict, IsVerdictOn, IfAgrees, IsBeside, Finds, begun_by, FailsFrom, FailsToAudit, FailsToLocate, HasReadLines, IsStrange};
+ghost use Rattle.feed_audit.specs.States.{afresh};
+ghost use Rattle.feed_audit.specs.Walks.{Counts};
+ghost use Rattle.feed_audit.specs.Along.{IsAlong};
+ghost use Rattle.feed_settings.specs.Limits.{Limits as Most};
 ghost use Rattle.feed_audit.specs.Stops.{IsUnread, IsUnreadPrimary};
 ghost use Rattle.feed_audit.specs.declared.verdict.AuditFault.TheVariants as failed;
 
@@ -80,11 +81,11 @@ fn find_behind<P: Lines>(
     ours: &mut Ours,
     wanted: &Node,
 ) -> Result<bool, AuditFault>
-    ensures some { (start : Start) (all behind : List ℕ) → P.left primary.old ≡ Some behind
-        → Counts start all behind ours.old.lines ours.old.states ours.old.mirror
-        → IsSince ours.old.since ours.old.mirror.node wanted.now.shown
-        → IfOk result (λ found. found ≡ true → IsLeft (P.left primary.new) (λ behind.
-        Finds start all behind ours.new.lines ours.new.states ours.new.mirror wanted.now.shown)) }
+    ensures some { (limits : Most) (all behind : List ℕ) → P.left primary.old ≡ Some behind
+        → Counts (afresh limits) all behind ours.old.lines ours.old.states ours.old.mirror
+        → IsAlong limits all ours.old.since ours.old.past ours.old.mirror.node wanted.now.shown
+        → IfOk result (λ found. found ≡ true
+        → Finds limits all (P.left primary.new) ours.new wanted.now.shown) }
     ensures err { IfErr result IsUnreadPrimary }
     ensures whole { P.whole primary.new ≡ P.whole primary.old }
     ensures unread { IfErr result (IsUnread (P.unread primary.new) (λ _. ⊥)) }
@@ -96,8 +97,9 @@ fn find_behind<P: Lines>(
     }
 }
 
-/// Looks for what a node shows among the primary's states: behind those that were read, and else
-/// among all of them. Answers whether there is such a state, behind which the record is left.
+/// Looks for what a node shows among the primary's states: those that are kept, those behind what
+/// was read, and else all of them, which are kept from then on. Answers whether there is such a
+/// state.
 fn locate<P: Replayed>(
     alloc: Global,
     limits: Limits,
@@ -108,10 +110,9 @@ fn locate<P: Replayed>(
     ensures some { (text : List ℕ) → P.whole primary.old ≡ Some text
         → HasReadLines limits text (P.left primary.old) ours.old.lines ours.old.states
         ours.old.mirror
-        → IsSince ours.old.since ours.old.mirror.node wanted.now.shown
-        → IfOk result (λ found. found ≡ true → IsLeft (P.left primary.new) (λ behind.
-        Finds (afresh limits) text behind ours.new.lines ours.new.states ours.new.mirror
-        wanted.now.shown)) }
+        → IsAlong limits text ours.old.since ours.old.past ours.old.mirror.node wanted.now.shown
+        → IfOk result (λ found. found ≡ true
+        → Finds limits text (P.left primary.new) ours.new wanted.now.shown) }
     ensures none { (text : List ℕ) → P.whole primary.old ≡ Some text
         → IfOk result (λ found. found ≡ false → IsStrange limits text wanted.now.shown) }
     ensures err { (text : List ℕ) → P.whole primary.old ≡ Some text
@@ -121,10 +122,14 @@ fn locate<P: Replayed>(
 {
     // What `none` rests on.
     line_laws();
+    if ours.keeps(alloc, wanted)? {
+        return Ok(true);
+    }
     if find_behind(alloc, primary, ours, wanted)? {
         return Ok(true);
     }
     *ours = Ours::begin(alloc, limits, primary)?;
+    ours.goes_back = true;
     match find(alloc, ours, primary, wanted) {
         Ok(found) => Ok(found),
         Err(stop) => Err(of_primary(stop, ours.lines)),
@@ -179,7 +184,7 @@ pub(crate) fn audit_on<P: Replayed, L: Lines>(
             Ok(false) => return Ok(Verdict::Agrees(states)),
             Ok(true) => {
                 let wanted = sides.theirs.node();
-                sides.ours.since.note_theirs(wanted)?;
+                sides.ours.note_theirs(wanted)?;
                 if !locate(alloc, limits, primary, &mut sides.ours, wanted)? {
                     let difference = explain(alloc, limits, primary, &before, wanted)?;
                     return Ok(Verdict::Strays(Stray {
@@ -191,7 +196,6 @@ pub(crate) fn audit_on<P: Replayed, L: Lines>(
                 }
                 // By a call: one that goes out of scope is a case for each kind of token.
                 drop(before);
-                sides.ours.since.meet();
                 states = states.saturating_add(1);
             }
         }

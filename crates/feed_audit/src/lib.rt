@@ -9,9 +9,11 @@ mod difference;
 mod explaining;
 mod laws;
 mod ours;
+mod past;
 mod record;
 mod since;
 mod stop;
+mod undoing;
 mod verdict;
 mod walk;
 

@@ -11,7 +11,6 @@ ghost use Rattle.feed_records.specs.ScreenLines.{source_of};
 ghost use Rattle.feed_audit.specs.Stops.{IsUnread, IsUnreadScreen};
 
 use crate::auditing::{Sides, audit_on};
-use crate::since::Since;
 use crate::stop::Stop;
 use crate::verdict::{AuditFault, Stray, Verdict, of_screen};
 use feed_node::{Limits, Mirror};
@@ -51,7 +50,7 @@ fn choose(
     match &opened.since {
         None => {
             sides.theirs = Mirror::new(alloc, limits)?;
-            sides.ours.since = Since::unknown(alloc);
+            sides.ours.part();
             Ok(())
         }
         Some(token) => {

@@ -2,10 +2,11 @@
 
 ghost use Rattle.std.specs.Prelude.{◌≡◌, true, false, [], ◌++◌, IfOk, OnOk, IsTrue, Some};
 ghost use Rattle.std.specs.List.{AllByRecursion};
+ghost use Rattle.feed_tables.specs.Tables.{Contents, after};
 ghost use Rattle.feed_tables.specs.Touched.{AgreeAt};
 ghost use Rattle.feed_node.specs.declared.commit.Commit.{Commit as Batch};
 ghost use Rattle.feed_node.specs.States.{NodeState, last_item, published_tables};
-ghost use Rattle.feed_audit.specs.Walks.{CommitsOn, IsSince};
+ghost use Rattle.feed_audit.specs.Walks.{CommitsOn, IsSince, IsSinceIn};
 
 use feed_node::Node;
 use feed_tables::{Change, Tables, touched_law};
@@ -126,9 +127,9 @@ impl Since {
 
     /// The screen's did.
     pub fn note_theirs(&mut self, node: &Node) -> Result<(), AllocError>
-        ensures { (ours before : NodeState) → IsSince self.old ours before
-            → CommitsOn before node.now.shown
-            → OnOk result (IsSince self.new ours node.now.shown) }
+        ensures { (ours : Contents) (before : NodeState)
+            → IsSinceIn self.old ours (published_tables before) → CommitsOn before node.now.shown
+            → OnOk result (IsSinceIn self.new ours (published_tables node.now.shown)) }
     {
         if !self.is_known {
             return Ok(());
@@ -137,13 +138,32 @@ impl Since {
         Ok(())
     }
 
+    /// The tables of the primary's side were changed.
+    pub fn note_change(&mut self, change: &Change) -> Result<(), AllocError>
+        ensures { (ours theirs : Contents) → IsSinceIn self.old ours theirs
+            → OnOk result (IsSinceIn self.new (after ours change.now) theirs) }
+    {
+        if self.is_known {
+            self.ours.push(change.copy()?)?;
+        }
+        Ok(())
+    }
+
+    /// They publish apart from now on.
+    pub fn part(&mut self)
+        ensures { self.new.is_known ≡ false }
+    {
+        self.is_known = false;
+        self.ours.clear();
+        self.theirs.clear();
+    }
+
     /// Whether tables that these changes made are the same: where the changes are, and else where
     /// the tables are wherever one of the changes could have made a difference. It takes time by
     /// the changes.
     pub fn makes_same(&self, tables: &Tables, others: &Tables) -> bool
-        ensures { (ours theirs : NodeState) → IsSince self.now ours theirs
-            → published_tables ours ≡ tables.now.contents
-            → published_tables theirs ≡ others.now.contents
+        ensures { (ours theirs : Contents) → IsSinceIn self.now ours theirs
+            → ours ≡ tables.now.contents → theirs ≡ others.now.contents
             → IsTrue result → tables.now.contents ≡ others.now.contents }
     {
         touched_law();

@@ -1,14 +1,12 @@
 -- Lemmas on what the command `audit` prints.
 use Rattle.std.proofs.Common.{◌≡◌, refl, sym, ap, subst, inl, inr, List, ℕ, Option, Some, None, Result, Ok, Err, IfErr, OnOk, OnErr}
 use Rattle.std.specs.Io.KnownBytes.{Appends, Keeps}
-use Rattle.feed_audit.specs.Records.{IsRecordVerdict, RecordStrays}
+use Rattle.feed_audit.specs.Records.{RecordStrays}
 use Rattle.feed_audit.specs.declared.difference.Difference.{Difference}
 use Rattle.feed_audit.specs.declared.difference.Difference.TheVariants as difference
 use Rattle.feed_audit.specs.declared.verdict.AuditFault.{AuditFault}
 use Rattle.feed_audit.specs.declared.verdict.AuditFault.TheVariants as audit
 use Rattle.feed_audit.specs.declared.verdict.Stray.{Stray}
-use Rattle.feed_audit.specs.declared.verdict.Verdict.{Verdict}
-use Rattle.feed_audit.specs.declared.verdict.Verdict.TheVariants as verdict
 use Rattle.feed_http.specs.Device.{AppendsPrefix}
 use Rattle.feed_arguments.specs.declared.request.AuditOptions.{AuditOptions}
 use Rattle.feed_commands.specs.Audit.{stray_printed, stray_fault, AuditFails, FailsToCompare, PrintsAgreement, TellsAgreement, TellsStray}
@@ -34,13 +32,13 @@ compare_fails options primary screen out (audit.ScreenUnread why) fails = (fails
 
 module _ (options : AuditOptions) (primary screen : List ℕ) (old new : Option (List ℕ)) where
   -- a prefix was printed of what is said of a stray state
-  pub stray_prefix : (why : Fault) (found : Verdict) (stray : Stray) (text : List ℕ) → why ≡ fault.Write
-      → found ≡ verdict.Strays stray → IsRecordVerdict options.limits primary screen found
+  pub stray_prefix : (why : Fault) (stray : Stray) (text : List ℕ) → why ≡ fault.Write
+      → RecordStrays options.limits primary screen stray
       → text ≡ stray_printed options.json options.verbose stray → AppendsPrefix old new text
       → AuditFails options primary screen why old new
-  stray_prefix why found stray text failed is found_is told printed =
+  stray_prefix why stray text failed strays told printed =
       subst (λ w. AuditFails options primary screen w old new) (sym failed)
-      (text, inr (stray_fault stray.difference, record { stray = stray; strays = subst (IsRecordVerdict options.limits primary screen) is found_is; why_is = refl; text_is = told }), printed)
+      (text, inr (stray_fault stray.difference, record { stray = stray; strays = strays; why_is = refl; text_is = told }), printed)
 
   -- it was printed
   pub stray_fails : (why : Fault) (stray : Stray) (text : List ℕ) → why ≡ stray_fault stray.difference

@@ -1,15 +1,17 @@
-use Rattle.std.proofs.Common.{◌≡◌, ℕ, List, Some, refl, sym, ap, ◌∙◌, subst, [], true, arith, rules}
+use Rattle.std.proofs.Common.{◌≡◌, ℕ, List, Some, refl, sym, ap, ◌∙◌, subst, true, arith, rules}
 use Rattle.std.proofs.lemmas.Result.{err_from_is_err_and}
-use Rattle.feed_node.specs.States.{NodeState, published_token}
-use Rattle.feed_audit.specs.Answers.{FailsFrom, IsBeside, begun_by}
+use Rattle.feed_node.specs.States.{published_token}
+use Rattle.feed_audit.specs.Answers.{FailsFrom, Finds, IsBeside, begun_by}
+use Rattle.feed_audit.specs.Along.{IsAlong}
 use Rattle.feed_records.specs.Fronts.{IsLeft}
-use Rattle.feed_audit.specs.States.{Start, afresh}
+use Rattle.feed_audit.specs.States.{Start}
 use Rattle.feed_audit.specs.Stops.{IsUnread}
-use Rattle.feed_audit.specs.Walks.{CommitsOn, IsNextState, IsSince, Finds}
+use Rattle.feed_audit.specs.Walks.{CommitsOn, IsNextState}
 use Rattle.feed_audit.proofs.Agreeing.{walked_begun, screen_stops}
 use Rattle.feed_audit.proofs.Missing.{locate_fails}
 use Rattle.feed_audit.proofs.Unreading.{screen_unread}
-use Rattle.feed_audit.proofs.Verdicts.{Agrees, agrees_none, agreement, agrees_on, meets_now, shown_after, still_since, straying}
+use Rattle.feed_audit.proofs.Verdicts.{Agrees, agrees_none, agreement, agrees_on, shown_after, still_shown, straying}
+use Rattle.feed_audit.proofs.Reading.{along_same, along_with, read_same}
 use Rattle.feed_audit.proofs.auditing.audit_on.Goals as goal
 
 pub states-init : goal.states-init
@@ -20,7 +22,7 @@ states-init g c = record {
     at,
     agrees_none _ _ _ _ beside.shown (walked_begun c.args.limits body c.args.sides.now.theirs _ c.begin.ensures.stands (c.begin.ensures.limits ∙ c.requires)),
   );
-  since = λ text body is at beside. subst (λ n. IsSince c.args.sides.now.ours.since c.args.sides.now.ours.mirror.node n) (sym c.begin.ensures.node) beside.since;
+  along = λ text body is at beside. subst (λ n. IsAlong c.args.limits text c.args.sides.now.ours.since c.args.sides.now.ours.past c.args.sides.now.ours.mirror.node n) (sym c.begin.ensures.node) beside.along;
   beyond = λ text body is at beside end e. e;
   within = omega arith;
   limits = c.begin.ensures.limits ∙ c.requires;
@@ -67,7 +69,7 @@ returns-in-Ok-false-clause-beside g c text body is at beside =
     let all = agreement c.line_laws.ensures.one_meaning _ _ _ _ _ _ _ _ _ a.2 end in
     record {
       read = c.states.invariant.ours text body is at beside;
-      since = still_since _ _ _ _ _ _ _ _ _ _ a.2.walked end (c.states.invariant.since text body is at beside);
+      along = along_same c.args.limits text _ _ _ _ _ (still_shown _ _ _ _ _ _ _ _ a.2.walked end) (c.states.invariant.along text body is at beside);
       shown = shown_after _ _ _ _ all.0 _ all.1;
     }
 
@@ -105,12 +107,10 @@ returns-in-Ok-false-clause-beyond g c text body is at beside end e =
 
 pub states-preserved : goal.states-preserved
 states-preserved g c = record {
-  ours = λ text body is at beside. let f = found text body is at beside in (f.0, f.1, f.2.counts);
+  ours = λ text body is at beside. (found text body is at beside).read;
   theirs = theirs;
-  since = λ text body is at beside.
-      let f = found text body is at beside in
-      meets_now c.meet.new.self c.locate.new.ours.mirror.node c.next_state.new.mirror.node c.meet.ensures.ours c.meet.ensures.theirs
-      (f.2.same ∙ ap (λ (n : NodeState). n.published) c.node-wanted.ensures.node);
+  along = λ text body is at beside.
+      subst (λ n. IsAlong c.args.limits text c.locate.new.ours.since c.locate.new.ours.past c.locate.new.ours.mirror.node n) c.node-wanted.ensures.node (found text body is at beside).along;
   beyond = λ text body is at beside end e.
       let a = c.states.invariant.theirs text body is at beside in
       c.in-Ok-true.ensures.beyond start body a.0 a.2.notes a.1 a.2.walked end (c.states.invariant.beyond text body is at beside end e);
@@ -132,17 +132,20 @@ states-preserved g c = record {
               (c.in-Ok-true.ensures.ok start body a.0 a.2.notes a.1 a.2.walked),
         )
 
-    found : (text body : List ℕ) → g.P.Lines.whole c.args.primary.now ≡ Some text → g.L.Lines.left c.args.screen.now ≡ Some body → IsBeside c.args.limits text (g.P.Lines.left c.args.primary.now) c.args.sides.now.ours c.args.sides.now.theirs
-        → IsLeft (g.P.Lines.left c.locate.new.primary) (λ behind. Finds (afresh c.args.limits) text behind c.locate.new.ours.lines c.locate.new.ours.states c.locate.new.ours.mirror c.node-wanted.result.now.shown)
+    found : (text body : List ℕ) → g.P.Lines.whole c.args.primary.now ≡ Some text → g.L.Lines.left c.args.screen.now ≡ Some body
+        → IsBeside c.args.limits text (g.P.Lines.left c.args.primary.now) c.args.sides.now.ours c.args.sides.now.theirs
+        → Finds c.args.limits text (g.P.Lines.left c.locate.new.primary) c.locate.new.ours c.node-wanted.result.now.shown
     found text body is at beside =
         let n = next text body is at beside in
-        let known = c.in_ok-note_theirs-in-Ok-true.ensures c.states.sides.ours.mirror.node c.states.sides.theirs.node (c.states.invariant.since text body is at beside)
+        let noted = c.in_ok-note_theirs-in-Ok-true.ensures.along c.args.limits text c.states.sides.ours.mirror.node c.states.sides.theirs.node (c.states.invariant.along text body is at beside)
         (subst (λ n. CommitsOn c.states.sides.theirs.node n) (sym c.node-wanted.ensures.node) n.1.1) in
-        c.in_ok-locate-in-Ok-true.ensures.some text (c.states.invariant.whole ∙ is) (c.states.invariant.ours text body is at beside) known c.if-not-branch.false
+        c.in_ok-locate-in-Ok-true.ensures.some text (c.states.invariant.whole ∙ is)
+        (read_same c.args.limits text _ _ _ _ _ _ _ (c.states.invariant.ours text body is at beside) c.note_theirs.ensures.lines c.note_theirs.ensures.states c.note_theirs.ensures.mirror)
+        (along_with c.args.limits text _ _ _ _ _ c.note_theirs.ensures.mirror noted) c.if-not-branch.false
 
-    theirs : (text body : List ℕ) → g.P.Lines.whole c.args.primary.now ≡ Some text → g.L.Lines.left c.args.screen.now ≡ Some body → IsBeside c.args.limits text (g.P.Lines.left c.args.primary.now) c.args.sides.now.ours c.args.sides.now.theirs
+    theirs : (text body : List ℕ) → g.P.Lines.whole c.args.primary.now ≡ Some text → g.L.Lines.left c.args.screen.now ≡ Some body
+        → IsBeside c.args.limits text (g.P.Lines.left c.args.primary.now) c.args.sides.now.ours c.args.sides.now.theirs
         → IsLeft (g.L.Lines.left c.next_state.new.text) (λ rest. Agrees start text body rest c.next_state.new.lines c.saturating_add-states.result c.next_state.new.mirror)
     theirs text body is at beside =
         let n = next text body is at beside in
-        let f = found text body is at beside in
-        (n.1.0.0, n.1.0.1, agrees_on _ _ _ _ _ _ _ _ _ _ _ _ _ _ _ _ n.0.2 n.1.0.2 c.node-wanted.ensures.node f.2 c.saturating_add-states.ensures)
+        (n.1.0.0, n.1.0.1, agrees_on _ _ _ _ _ _ _ _ _ _ _ _ n.0.2 n.1.0.2 c.node-wanted.ensures.node (found text body is at beside).shown c.saturating_add-states.ensures)

@@ -6,7 +6,7 @@ use Rattle.feed_audit.proofs.Unreading.{primary_unread}
 use Rattle.feed_audit.proofs.auditing.find_behind.Goals as goal
 
 pub returns-in-Ok-clause-some : goal.returns-in-Ok-clause-some
-returns-in-Ok-clause-some g c start all behind is w since = c.in-Ok.ensures.some start all behind is w since
+returns-in-Ok-clause-some g c limits all behind is w along = c.in-Ok.ensures.some limits all behind is w along
 
 pub returns-in-Err-Unread-clause-err : goal.returns-in-Err-Unread-clause-err
 returns-in-Err-Unread-clause-err g c = subst IsUnreadPrimary (sym c.of_primary.ensures) (unread_primary c.in-Err-Unread.why c.find.new.ours.lines)
