@@ -13,6 +13,7 @@ use std::alloc::{AllocError, Global};
 use std::fs::File;
 use std::io;
 use std::io::ErrorKind;
+use std::net::SocketAddr;
 use std::time::Instant;
 
 /// Why a server is refused that is the relay itself.
@@ -20,6 +21,9 @@ const ITSELF: &str = "a relay can't follow itself";
 
 /// Why a state file is refused whose name is empty.
 const NO_NAME: &str = "--state names no file";
+
+/// Why an address can't be listened at that this machine doesn't have.
+const NOT_OURS: &str = "no address of this machine";
 
 /// The servers: the hosts that they are of, and what each is asked for.
 #[derive(Drop)]
@@ -145,6 +149,16 @@ fn kept_limits(options: &LiveOptions<'_>) -> Limits {
     }
 }
 
+/// An address can't be listened at, for this reason.
+fn of_port(alloc: Global, address: SocketAddr, reason: ErrorKind) -> Failure {
+    let text = match reason {
+        ErrorKind::OutOfMemory => return Failure::from(Fault::Memory),
+        ErrorKind::AddrNotAvailable => format!(in alloc; "{address} ({NOT_OURS})"),
+        _ => format!(in alloc; "{address} ({reason})"),
+    };
+    Failure::about(Fault::from(NetworkFault::Bind), text)
+}
+
 /// Why there is nothing to run on.
 fn failure_of(alloc: Global, fault: StartFault) -> Failure {
     match fault {
@@ -155,10 +169,7 @@ fn failure_of(alloc: Global, fault: StartFault) -> Failure {
             Failure::about(fault, String::from_str(alloc, option))
         }
         StartFault::List(option, fault) => of_list(alloc, option, fault),
-        StartFault::Bind(address) => {
-            let fault = Fault::from(NetworkFault::Bind);
-            Failure::about(fault, format!(in alloc; "{address}"))
-        }
+        StartFault::Bind(address, reason) => of_port(alloc, address, reason),
     }
 }
 

@@ -43,8 +43,8 @@ pub enum StartFault {
     Address(&'static str),
     /// That of this one is no list of networks.
     List(&'static str, AddressFault),
-    /// This address can't be listened at.
-    Bind(SocketAddr),
+    /// This address can't be listened at, for what the system says.
+    Bind(SocketAddr, ErrorKind),
 }
 
 impl From<AllocError> for StartFault {
@@ -70,6 +70,14 @@ fn local_address(option: &'static str, address: &str, port: u16) -> Result<Socke
     }
 }
 
+/// Listens at an address.
+fn bound(rt: &HostRuntime, address: SocketAddr) -> Result<TcpListener, StartFault> {
+    match TcpListener::bind(rt, address) {
+        Ok(listener) => Ok(listener),
+        Err(error) => Err(StartFault::Bind(address, error.kind())),
+    }
+}
+
 /// Listens at an address, where there is one.
 fn listener_of(
     rt: &HostRuntime,
@@ -80,9 +88,7 @@ fn listener_of(
     let Some(address) = address else {
         return Ok(None);
     };
-    let Ok(mut listener) = TcpListener::bind(rt, address) else {
-        return Err(StartFault::Bind(address));
-    };
+    let mut listener = bound(rt, address)?;
     poll.registry()
         .register(&mut listener, token, Interest::READABLE)?;
     Ok(Some(listener))
