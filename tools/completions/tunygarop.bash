@@ -31,7 +31,7 @@ _tunygarop() {
         --history | --back | --staged | --memory | --turns | --turn | --count | --port | --listen | --status)
             return
             ;;
-        --contest | --from | --base | --address | --screens | --idle | --window | --pending | --silence | --settle | --return | --hold)
+        --contest | --url | --from | --base | --address | --screens | --idle | --window | --pending | --silence | --settle | --return | --hold)
             return
             ;;
         --of | --against | --for)
@@ -58,7 +58,7 @@ _tunygarop() {
             names="host port from contest base host-header user-file turns silence resume verbose history staged memory listen count chunked"
             ;;
         live)
-            names="contest host port base from host-header user-file settle fresh serve-broken no-recheck return until-eof listen address screens allow per-address idle window pending chunked state new hold serve-old history staged memory status status-address verbose quiet"
+            names="contest url host port base from host-header user-file settle fresh serve-broken no-recheck return until-eof listen address screens allow per-address idle window pending chunked state new hold serve-old history staged memory status status-address verbose quiet"
             ;;
         help)
             [ "$COMP_CWORD" -eq 2 ] && mapfile -t COMPREPLY < <(compgen -W "$commands" -- "$word")

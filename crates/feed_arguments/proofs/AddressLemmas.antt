@@ -42,7 +42,7 @@ not_in c text xs ys lacks e =
     lacks (length xs) inside here
 
 -- a text is cut at the last such byte in one way
-same_cut : (c : ℕ) (xs ys us vs : List ℕ) → xs ++ c ∷ ys ≡ us ++ c ∷ vs → Lacks c ys → Lacks c vs → (xs ≡ us)
+pub same_cut : (c : ℕ) (xs ys us vs : List ℕ) → xs ++ c ∷ ys ≡ us ++ c ∷ vs → Lacks c ys → Lacks c vs → (xs ≡ us)
     × (ys ≡ vs)
 same_cut c [] ys [] vs e a b = (refl, cc)
 same_cut c [] ys (u ∷ us) vs e a b = absurd (not_in c ys us vs a (cc))
@@ -53,7 +53,7 @@ same_cut c (x ∷ xs) ys (u ∷ us) vs e a b =
     let same = same_cut c xs ys us vs rest a b in
     ((λ k. first k ∷ same.0 k), same.1)
 
-digits_lack : (digits : List ℕ) → AllDigits 10 digits → Lacks 58 digits
+pub digits_lack : (digits : List ℕ) → AllDigits 10 digits → Lacks 58 digits
 digits_lack digits all i inside e = let at = digit_at digits i all inside in omega (arith, at, e)
 
 -- a text without a colon, one whose host is none, and one whose port is none

@@ -1,5 +1,5 @@
 -- Lemmas on options that have a rule on another one.
-use Rattle.std.proofs.Common.{◌≡◌, refl, ap, sym, ◌∙◌, ℕ, Bool, true, false, List, [], ◌∷◌, ◌++◌, Option, Some, None, length, arith}
+use Rattle.std.proofs.Common.{◌≡◌, refl, ap, sym, ◌∙◌, ℕ, Bool, true, false, List, [], ◌∷◌, ◌++◌, Option, Some, None, length, append_assoc, arith}
 use Rattle.std.proofs.lemmas.Bool.Decides.{nat_tests}
 use Rattle.std.proofs.lemmas.List.{nil_from_length}
 use Rattle.std.specs.Borrow.{Bor}
@@ -142,5 +142,41 @@ excludes_is d old new other t is local adds =
       needs = ap (λ a. a.needs.items) adds.0 ∙ alone.needs ∙ ap needs_by (sym t);
       unless = ap (λ a. a.r_unless.items) adds.0 ∙ alone.unless ∙ ap unless_by (sym t);
       conflicts = adds.1 ∙ ap (λ xs. xs ++ other ∷ []) alone.conflicts ∙ ap conflicts_by (sym t);
+      local = ap (λ a. a.global) adds.0 ∙ local;
+    }
+
+-- an option that excludes one more, and further ones
+pub excludes_more : (old middle new : Arg) (first : Bor (List ℕ)) (others : List (Bor (List ℕ)))
+    → AddsConflicts old middle (first ∷ []) → AddsConflicts middle new others
+    → AddsConflicts old new (first ∷ others)
+excludes_more old middle new first others (same, more) (still, further) = (
+  still ∙ ap {A = Arg} (λ a. record a { conflicts = new.conflicts }) same,
+  further ∙ ap (λ xs. xs ++ others) more ∙ append_assoc old.conflicts.items (first ∷ []) others,
+)
+
+cons_is_some : {X : Type 0} (x : X) (xs : List X) → is_empty (x ∷ xs) ≡ false
+cons_is_some x xs = grind (arith, nat_tests)
+
+is_some_more : {X : Type 0} (now xs : List X) (x : X) (others : List X) → now ≡ xs ++ x ∷ others → is_empty now ≡ false
+is_some_more now [] x others more = ap is_empty more ∙ cons_is_some x others
+is_some_more now (y ∷ xs) x others more = ap is_empty more ∙ cons_is_some y (xs ++ x ∷ others)
+
+excludes_all : (old new : Arg) (x : Bor (List ℕ)) (others : List (Bor (List ℕ))) → AddsConflicts old new (x ∷ others)
+    → rule_of new ≡ tied (rule_of old)
+excludes_all old new x others (same, more) =
+    ap rule_of same ∙ ap (λ free. record (rule_of old) { is_free = free })
+    (fails_then _ _ (fails_first _ _ (is_some_more new.conflicts.items old.conflicts.items x others more)))
+
+pub replaces_is : (d : Declared) (old new : Arg) (first : Bor (List ℕ)) (others : Bor (List (Bor (List ℕ))))
+    → d.tie ≡ tie.Replaces first others → rule_of old ≡ rule_by (untied d) → old.global ≡ false
+    → AddsConflicts old new (first ∷ others.now) → IsDeclared d new
+replaces_is d old new first others t is local adds =
+    let alone = is_alone old (is_free d old is) in
+    let e : tied (rule_by (untied d)) ≡ rule_by d = ap (λ t. tie_rule t (rule_by (untied d))) (sym t) in
+    record {
+      rule = excludes_all old new first others.now adds ∙ ap tied is ∙ e;
+      needs = ap (λ a. a.needs.items) adds.0 ∙ alone.needs ∙ ap needs_by (sym t);
+      unless = ap (λ a. a.r_unless.items) adds.0 ∙ alone.unless ∙ ap unless_by (sym t);
+      conflicts = adds.1 ∙ ap (λ xs. xs ++ first ∷ others.now) alone.conflicts ∙ ap conflicts_by (sym t);
       local = ap (λ a. a.global) adds.0 ∙ local;
     }

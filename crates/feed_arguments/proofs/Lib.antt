@@ -2,4 +2,5 @@ mod AddressLemmas
 mod Conjunctions
 mod DeclaringLemmas
 mod NetworkLemmas
+mod UrlLemmas
 mod WordsLemmas

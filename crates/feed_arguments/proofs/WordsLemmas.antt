@@ -5,7 +5,8 @@ use Rattle.std.proofs.lemmas.Bool.{and_parts as both_true}
 use Rattle.std.specs.List.{list_all, list_any}
 use Rattle.std.specs.Option.{option_map_or}
 use Rattle.std.specs.Str.{bytes_eq}
-use Rattle.std.specs.Prelude.{unwrap_or, ◌&&◌, ◌||◌, ◌≢◌, not, find, if◌then◌else◌, is_some, option_and_then, slice_get}
+use Rattle.std.specs.Borrow.{Bor}
+use Rattle.std.specs.Prelude.{IsSomeAnd, ◌⊎◌, unwrap_or, ◌&&◌, ◌||◌, ◌≢◌, not, find, if◌then◌else◌, is_some, option_and_then, slice_get}
 use Rattle.std.specs.Str.Parse.{IsNumeral, ParsesUnsigned, digits_value, without_leading_plus}
 use Rattle.clap.specs.Matches.{ReadsOne}
 use Rattle.clap.specs.Values.{read_as}
@@ -20,6 +21,9 @@ use Rattle.clap.specs.declared.error.kind.ErrorKind.{ErrorKind}
 use Rattle.clap.specs.declared.error.kind.ErrorKind.TheVariants as kind
 use Rattle.clap.proofs.OnLiterals.{clap_on_literals}
 use Rattle.feed_arguments.proofs.Conjunctions.{sixth}
+use Rattle.feed_arguments.specs.Addresses.{most_port}
+use Rattle.feed_arguments.specs.Listening.{IsPortAt}
+use Rattle.feed_arguments.specs.Live.{IsPortAsked}
 use Rattle.feed_arguments.specs.Options.{number_at, text_at, IsInDigits, SaysNumber, IsNumberIfGiven}
 use Rattle.feed_arguments.specs.Words.{command_line, AskInVain, AsksAt, AsksBy, AsksNothing, RefusesBy, RepliesBy}
 use Rattle.feed_arguments.specs.declared.request.Request.{Request}
@@ -151,6 +155,32 @@ says_nothing id most rows (Some m) given never is =
     never m (record { digits = is.digits; said = is.said; least = is.least; greatest = is.greatest })
 
 pub ruleset says = (says_none, says_some, says_nothing)
+
+-- an option that says no port has no text; one that says a port has
+no_port : (id : Text) (rows : List Row) (before : Option Text) → IsPortAsked id rows None before
+    → text_at id rows ≡ None
+no_port id rows None is =
+    (none_of_both (find (λ r. bytes_eq r.id id) rows)).1
+    ((mapped_none (λ t. digits_value 10 (without_leading_plus t)) (one_of id rows)).1 is.said)
+no_port id rows (Some address) is = absurd is
+
+has_text : (id : Text) (rows : List Row) (n : ℕ) (before : Option Text) → IsPortAsked id rows (Some n) before
+    → text_at id rows ≡ None → ⊥
+has_text id rows n None is none = let said = (says_none id most_port rows none).said in absurd (cc)
+has_text id rows n (Some address) is none =
+    subst (λ o. IsSomeAnd o (λ text. IsPortAt text address n)) none is
+
+-- so where the one asks for neither a port nor a file, nothing does
+pub no_use : (rows : List Row) (port : Option ℕ) (state : Option (Bor Text)) (before other : Option Text)
+    → IsPortAsked (codes "listen") rows None before → text_at (codes "state") rows ≡ None
+    → IsPortAsked (codes "listen") rows port other
+    → text_at (codes "state") rows ≡ option_map (λ text. text.now) state
+    → (is_some port ≡ true) ⊎ (is_some state ≡ true) → ⊥
+no_use rows (Some n) state before other mine none theirs kept use_it =
+    has_text (codes "listen") rows n other theirs (no_port (codes "listen") rows before mine)
+no_use rows None (Some file) before other mine none theirs kept use_it = absurd (cc)
+no_use rows None None before other mine none theirs kept (inl some) = absurd (cc)
+no_use rows None None before other mine none theirs kept (inr some) = absurd (cc)
 
 -- the settings of a plain command: no global option is among them
 pub no_globals : (c a b rest : Bool) → (a && (not b && (not c && rest))) ≡ true → c ≡ false

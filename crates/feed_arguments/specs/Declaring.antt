@@ -46,6 +46,7 @@ unless_by other = []
 
 abbrev pub conflicts_by : Tie → List (Bor (List ℕ))
 conflicts_by (tie.Excludes other) = other ∷ []
+conflicts_by (tie.Replaces first others) = first ∷ others.now
 conflicts_by other = []
 
 -- clap's option is the one that is declared: its rule is, and it has to do with just the other

@@ -1,5 +1,7 @@
 pub mod Addresses
 pub mod Declaring
+pub mod FeedUrl
+pub mod Listening
 pub mod Live
 pub mod Networks
 pub mod Options

@@ -1,14 +1,17 @@
 -- The command `live`: its options, and what they ask for.
-use Rattle.std.specs.Prelude.{◌≡◌, ◌⊎◌, ℕ, Bool, true, false, List, [], ◌∷◌, Option, Some, None, codes, is_some}
-use Rattle.std.specs.Prelude.{option_map}
+use Rattle.std.specs.Prelude.{◌≡◌, ◌≢◌, ◌⊎◌, ℕ, Bool, true, false, List, [], ◌∷◌, Option, Some, None, codes, is_some}
+use Rattle.std.specs.Prelude.{option_map, unwrap_or, IsSomeAnd}
 use Rattle.clap.specs.Words.{App, Row, Rule, new_app}
 use Rattle.feed_settings.specs.Limits.{most_commits}
 use Rattle.feed_arguments.specs.Addresses.{most_port}
+use Rattle.feed_arguments.specs.FeedUrl.{IsFeedUrl}
+use Rattle.feed_arguments.specs.Listening.{IsPortAt}
 use Rattle.feed_arguments.specs.Options as options
 use Rattle.feed_arguments.specs.Options.{flag, number_in, number_between, text_option, tied, with_default, with_rules, text_at}
 use Rattle.feed_arguments.specs.Options.{SaysNumber, IsNumberUpTo, IsNumberIfGiven, IsGiven, IsFramed, AsksLimitsOr}
 use Rattle.feed_arguments.specs.Upstream.{AsksUpstream}
 use Rattle.feed_arguments.specs.declared.request.LiveOptions.{LiveOptions}
+use Rattle.feed_arguments.specs.declared.url.FeedUrl.{FeedUrl}
 use Rattle.feed_arguments.specs.declared.request.UpstreamOptions.{UpstreamOptions}
 use Rattle.feed_arguments.specs.declared.request.Verbosity.{Verbosity}
 use Rattle.feed_arguments.specs.declared.request.Verbosity.TheVariants as verbosity
@@ -46,29 +49,27 @@ most_hold = 3600
 
 -- ---- the command
 
+-- `--contest`, which `--url` stands for
+abbrev pub contest : Rule
+contest = tied (text_option (codes "contest"))
+
+abbrev pub url : Rule
+url = tied (text_option (codes "url"))
+
 abbrev pub host : Rule
 host = tied (text_option (codes "host"))
 
 abbrev pub port : Rule
 port = tied (number_in (codes "port") most_port)
 
-abbrev pub from : Rule
-from = tied options.from
-
 abbrev pub base : Rule
 base = tied options.base
 
 abbrev pub listen : Rule
-listen = tied (number_in (codes "listen") most_port)
+listen = tied (text_option (codes "listen"))
 
 abbrev pub address : Rule
-address = tied (with_default (codes "127.0.0.1") (text_option (codes "address")))
-
-abbrev pub host_header : Rule
-host_header = tied options.host_header
-
-abbrev pub user_file : Rule
-user_file = tied options.user_file
+address = tied (text_option (codes "address"))
 
 abbrev pub allow : Rule
 allow = text_option (codes "allow")
@@ -77,7 +78,7 @@ abbrev pub per_address : Rule
 per_address = number_in (codes "per-address") most_screens
 
 abbrev pub status : Rule
-status = number_in (codes "status") most_port
+status = text_option (codes "status")
 
 abbrev pub status_address : Rule
 status_address = tied (text_option (codes "status-address"))
@@ -135,7 +136,8 @@ quiet = flag (codes "quiet")
 
 -- the options that say what is followed, and as whom
 abbrev pub upstream : List Rule
-upstream = options.contest ∷ host ∷ port ∷ base ∷ from ∷ host_header ∷ user_file ∷ []
+upstream =
+    contest ∷ url ∷ host ∷ port ∷ base ∷ options.from ∷ options.host_header ∷ options.user_file ∷ []
 
 -- those that say how a feed is asked for, when it is shown, and until when it is followed
 abbrev pub settling : List Rule
@@ -169,10 +171,79 @@ live =
 
 -- ---- what its options ask for
 
+-- no option says how a server is asked
+pub record AsksNobody (rows : List Row) : Type 0 where
+  pub no_from : text_at (codes "from") rows ≡ None
+  pub no_host_header : text_at (codes "host-header") rows ≡ None
+  pub no_user_file : text_at (codes "user-file") rows ≡ None
+
 -- a server is followed where `--host` is given, and else standard input
 abbrev pub IsUpstream : List Row → Option UpstreamOptions → Type 0
 IsUpstream rows (Some upstream) = AsksUpstream rows upstream
-IsUpstream rows None = text_at (codes "host") rows ≡ None
+IsUpstream rows None = (text_at (codes "host") rows ≡ None) × AsksNobody rows
+
+-- the servers of which the first one is at this URL
+pub record IsAtUrl (rows : List Row) (url : FeedUrl) (upstream : UpstreamOptions) : Type 0 where
+  pub host_is : upstream.host.now ≡ url.host.now
+  pub port_is : upstream.port ≡ url.port
+  pub base_is : upstream.base.now ≡ url.base.now
+  pub from_is : text_at (codes "from") rows ≡ option_map (λ text. text.now) upstream.from
+  pub host_header_is :
+      text_at (codes "host-header") rows ≡ option_map (λ text. text.now) upstream.host_header
+  pub user_file_is :
+      text_at (codes "user-file") rows ≡ option_map (λ text. text.now) upstream.user_file
+
+-- a text is such a URL, of this contest
+pub record IsByUrl (rows : List Row) (text name : List ℕ) (upstream : UpstreamOptions) : Type 0
+  where
+    pub url : FeedUrl
+    pub url_is : IsFeedUrl text url
+    pub name_is : name ≡ url.contest.now
+    pub at : IsAtUrl rows url upstream
+
+abbrev pub IsOfUrl : List Row → List ℕ → List ℕ → Option UpstreamOptions → Type 0
+IsOfUrl rows text name (Some upstream) = IsByUrl rows text name upstream
+IsOfUrl rows text name None = ⊥
+
+-- the feed of this contest is followed, at these servers: as `--url` says where it is given
+abbrev pub IsOf : List Row → Option (List ℕ) → List ℕ → Option UpstreamOptions → Type 0
+IsOf rows None name upstream =
+    (text_at (codes "contest") rows ≡ Some name) × IsUpstream rows upstream
+IsOf rows (Some text) name upstream = IsOfUrl rows text name upstream
+
+abbrev pub IsFollowed : List Row → List ℕ → Option UpstreamOptions → Type 0
+IsFollowed rows name upstream = IsOf rows (text_at (codes "url") rows) name upstream
+
+-- an option says a port, or an address of this machine and a port
+abbrev pub IsPortAsked : List ℕ → List Row → Option ℕ → Option (List ℕ) → Type 0
+IsPortAsked name rows port None = IsNumberIfGiven name most_port rows port
+IsPortAsked name rows None (Some before) = ⊥
+IsPortAsked name rows (Some number) (Some before) =
+    IsSomeAnd (text_at name rows) (λ text. IsPortAt text before number)
+
+-- the address that screens come to: the one before the port, or that of its option, and else the
+-- machine itself
+abbrev pub IsAddressAsked : List Row → Option (List ℕ) → List ℕ → Type 0
+IsAddressAsked rows None address =
+    address ≡ unwrap_or (text_at (codes "address") rows) (codes "127.0.0.1")
+IsAddressAsked rows (Some before) address =
+    (address ≡ before) × (text_at (codes "address") rows ≡ None)
+
+-- that of those who watch, if it is given
+abbrev pub IsStatusAddress : List Row → Option (List ℕ) → Option (List ℕ) → Type 0
+IsStatusAddress rows None address = text_at (codes "status-address") rows ≡ address
+IsStatusAddress rows (Some before) address =
+    (address ≡ Some before) × (text_at (codes "status-address") rows ≡ None)
+
+-- where screens come to, and those who watch
+pub record AsksListener (rows : List Row) (listen : Option ℕ) (address : List ℕ)
+    (status : Option ℕ) (status_address : Option (List ℕ)) : Type 0 where
+  pub before_listen : Option (List ℕ)
+  pub before_status : Option (List ℕ)
+  pub listen_is : IsPortAsked (codes "listen") rows listen before_listen
+  pub address_is : IsAddressAsked rows before_listen address
+  pub status_is : IsPortAsked (codes "status") rows status before_status
+  pub status_address_is : IsStatusAddress rows before_status status_address
 
 -- as much is reported as the two options say
 abbrev pub is_verbose : Verbosity → Bool
@@ -187,18 +258,26 @@ is_quiet other = false
 abbrev pub AreBothGiven : List Row → Type 0
 AreBothGiven rows = IsGiven (codes "verbose") rows true × IsGiven (codes "quiet") rows true
 
+-- an option has a text
+abbrev pub IsTextGiven : List ℕ → List Row → Type 0
+IsTextGiven name rows = text_at name rows ≢ None
+
+-- options that may clash, though each says something: both that say how much is reported; and one
+-- that says an address, which may stand before a port, too
+abbrev pub MayClash : List Row → Type 0
+MayClash rows =
+    AreBothGiven rows
+    ⊎ (IsTextGiven (codes "address") rows ⊎ IsTextGiven (codes "status-address") rows)
+
 -- the values of the options of `live`
 pub record AsksLive (rows : List Row) (options : LiveOptions) : Type 0 where
-  pub contest_is : text_at (codes "contest") rows ≡ Some options.contest.now
-  pub upstream_is : IsUpstream rows options.upstream
-  pub listen_is : IsNumberIfGiven (codes "listen") most_port rows options.listen
-  pub address_is : text_at (codes "address") rows ≡ Some options.address.now
+  pub followed_is : IsFollowed rows options.contest.now options.upstream
+  pub listener_is :
+      AsksListener rows options.listen options.address.now options.status
+      (option_map (λ text. text.now) options.status_address)
   pub allow_is : text_at (codes "allow") rows ≡ option_map (λ text. text.now) options.allow
   pub per_address_is :
       IsNumberIfGiven (codes "per-address") most_screens rows options.per_address
-  pub status_is : IsNumberIfGiven (codes "status") most_port rows options.status
-  pub status_address_is :
-      text_at (codes "status-address") rows ≡ option_map (λ text. text.now) options.status_address
   pub screens_are : SaysNumber (codes "screens") most_screens rows options.screens
   pub idle_is : SaysNumber (codes "idle") most_idle rows options.idle
   pub window_is : SaysNumber (codes "window") most_window rows options.window

@@ -9,7 +9,7 @@ use std::alloc::{AllocError, Global};
 use thiserror::Error;
 
 /// The most addresses of a list.
-const MOST_ADDRESSES: usize = 16;
+pub const MOST_ADDRESSES: usize = 16;
 
 /// Why a text is no list of addresses: the first of these that holds.
 #[derive(Clone, Copy, Debug, PartialEq, Eq, Error)]
@@ -48,7 +48,7 @@ fn port_of(text: &str) -> Option<u16>
 }
 
 /// The host and the port of one address.
-fn address_of(text: &str) -> Option<(&str, u16)>
+pub(crate) fn address_of(text: &str) -> Option<(&str, u16)>
     ensures some { IfSome result (λ a. IsAddress text.now (a.0.now, a.1)) }
     ensures none { result ≡ None → IsNoAddress text.now }
 {

@@ -1,21 +1,25 @@
 //! The words of a command line, and what they ask for.
 ghost use Rattle.std.specs.Prelude.{◌≡◌, List, map, IfOk, IfErr};
 ghost use Rattle.clap.specs.Words.{Text, app_of, kind_of};
+ghost use Rattle.clap.specs.declared.error.kind.ErrorKind.TheVariants as kind;
 ghost use Rattle.feed_arguments.specs.Words.{Asks, AsksNothing, RefusesBy, RepliesBy, command_line};
 
 mod asked;
 mod asked_live;
 mod declaring;
+mod followed;
 mod line;
 mod live;
 mod options;
+mod refusing;
 
 use crate::request::{NoCommand, Request};
-use asked::{refusal, request_entered};
-use clap::Command;
+use asked::request_entered;
 use clap::error::ErrorKind;
+use clap::{ArgMatches, Command};
 use line::{USUAL_CALLS, command_line};
-use std::alloc::Global;
+use refusing::refusal;
+use std::alloc::{AllocError, Global};
 
 /// The name of the program.
 pub const PROGRAM: &str = "tunygarop";
@@ -40,8 +44,24 @@ fn reply(alloc: Global, error: &clap::Error) -> NoCommand
     }
 }
 
+/// Why what was entered asks for nothing.
+fn told(
+    alloc: Global,
+    program: &mut Command<'_>,
+    matches: &ArgMatches<'_>,
+) -> Result<clap::Error, AllocError>
+    ensures { IfOk result (λ error. kind_of error ≡ kind.ValueValidation) }
+{
+    let text = refusal(alloc, matches)?;
+    program.error(ErrorKind::ValueValidation, text.as_str())
+}
+
 /// What the words ask of the program, or what clap replies to them.
-fn asked_of<'a>(program: &mut Command<'a>, words: &'a [&'a str]) -> Result<Request<'a>, clap::Error>
+fn asked_of<'a>(
+    alloc: Global,
+    program: &mut Command<'a>,
+    words: &'a [&'a str],
+) -> Result<Request<'a>, clap::Error>
     ensures ok { app_of program.old ≡ command_line → IfOk result (λ request.
         Asks (map (λ word. word.now) words.entry.now) request) }
     ensures err { app_of program.old ≡ command_line → IfErr result (λ error.
@@ -50,7 +70,10 @@ fn asked_of<'a>(program: &mut Command<'a>, words: &'a [&'a str]) -> Result<Reque
     let matches = program.try_get_matches_from_mut(words)?;
     match request_entered(&matches) {
         Some(request) => Ok(request),
-        None => Err(program.error(ErrorKind::ValueValidation, refusal(&matches))?),
+        None => {
+            let error = told(alloc, program, &matches)?;
+            Err(error)
+        }
     }
 }
 
@@ -61,7 +84,7 @@ fn parse<'a>(alloc: Global, words: &'a [&'a str]) -> Result<Request<'a>, clap::E
         RefusesBy (map (λ word. word.now) words.entry.now) (kind_of error)) }
 {
     let mut program = command_line(alloc)?;
-    let asked = asked_of(&mut program, words);
+    let asked = asked_of(alloc, &mut program, words);
     // By a call: where a command goes out of scope, the drops of all its fields are proved.
     drop(program);
     asked

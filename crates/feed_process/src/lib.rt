@@ -4,6 +4,7 @@
 
 mod making;
 mod restoring;
+mod servers;
 mod watching;
 
 pub use making::{Made, fault_of_system, make};

@@ -1,11 +1,10 @@
 //! What a relay is made of, before it begins: state files are taken, and ports opened.
 
+use crate::servers::{Asked, identity, needs_memory, of_list, servers};
 use crate::watching::Watched;
 use feed_answer::{Identity, Place};
-use feed_commands::{
-    AddressFault, Fault, LiveOptions, NetworkFault, Server, UpstreamOptions, VERSION, servers_of,
-};
-use feed_host::{Failure, Hosts, identity_of, is_itself};
+use feed_commands::{AddressFault, Fault, LiveOptions, NetworkFault, VERSION};
+use feed_host::Failure;
 use feed_node::Limits;
 use feed_state::{About, FileTexts, Kept, StateFault, take_state};
 use feed_system::{Resources, ServerName, StartFault, open};
@@ -16,98 +15,11 @@ use std::io::ErrorKind;
 use std::net::SocketAddr;
 use std::time::Instant;
 
-/// Why a server is refused that is the relay itself.
-const ITSELF: &str = "a relay can't follow itself";
-
 /// Why a state file is refused whose name is empty.
 const NO_NAME: &str = "--state names no file";
 
 /// Why an address can't be listened at that this machine doesn't have.
 const NOT_OURS: &str = "no address of this machine";
-
-/// The servers: the hosts that they are of, and what each is asked for.
-#[derive(Drop)]
-struct Asked {
-    hosts: Vec<ServerName>,
-    places: Vec<Place>,
-}
-
-impl Asked {
-    /// One more host, of which each server is asked for the same.
-    fn push(
-        &mut self,
-        rt: &HostRuntime,
-        name: String,
-        port: u16,
-        place: &Place,
-    ) -> Result<(), Fault> {
-        let host = needs_memory(ServerName::new(rt, name, port))?;
-        for _ in 0..host.servers() {
-            let (name, base, contest) = (place.host(), place.base(), place.contest());
-            push(
-                &mut self.places,
-                Place::new(rt.alloc(), name, base, contest)?,
-            )?;
-        }
-        push(&mut self.hosts, host)
-    }
-}
-
-/// The relay can't follow itself, as a list of servers that is the same for all relays has it.
-fn refuse_itself(
-    rt: &HostRuntime,
-    options: &LiveOptions<'_>,
-    host: &str,
-    port: u16,
-) -> Result<(), Failure> {
-    if !is_itself(rt, options, host, port) {
-        return Ok(());
-    }
-    let text = format!(in rt.alloc(); "a relay can't follow itself: it listens at {host}:{port}");
-    Err(Failure::refused_for(text, ITSELF))
-}
-
-/// The servers that are asked: none where the feed is the input.
-fn servers(
-    rt: &HostRuntime,
-    options: &LiveOptions<'_>,
-    identity: &Identity,
-) -> Result<Asked, Failure> {
-    let mut asked = Asked {
-        hosts: Vec::new(rt.alloc()),
-        places: Vec::new(rt.alloc()),
-    };
-    let Some(upstream) = &options.upstream else {
-        return Ok(asked);
-    };
-    let hosts = Hosts::new(rt.alloc(), upstream)?;
-    let named = hosts.named(upstream);
-    for server in listed(rt, &named, options.contest, identity)? {
-        let Server {
-            host,
-            port,
-            place,
-            ..
-        } = server;
-        refuse_itself(rt, options, host.as_str(), port)?;
-        asked.push(rt, host, port, &place)?;
-    }
-    Ok(asked)
-}
-
-fn push<T: Drop>(list: &mut Vec<T>, item: T) -> Result<(), Fault> {
-    match list.push(item) {
-        Ok(()) => Ok(()),
-        Err(_) => Err(Fault::Memory),
-    }
-}
-
-fn needs_memory<T: Drop>(outcome: Result<T, AllocError>) -> Result<T, Fault> {
-    match outcome {
-        Ok(value) => Ok(value),
-        Err(_) => Err(Fault::Memory),
-    }
-}
 
 /// A call of the system failed.
 pub fn fault_of_system(error: io::Error) -> Fault {
@@ -173,34 +85,6 @@ fn failure_of(alloc: Global, fault: StartFault) -> Failure {
     }
 }
 
-/// The value of an option is no list of addresses or networks.
-fn of_list(alloc: Global, option: &str, fault: AddressFault) -> Failure {
-    match fault {
-        AddressFault::Memory => Failure::from(Fault::Memory),
-        AddressFault::TooMany => {
-            Failure::about(
-                Fault::from(fault),
-                format!(in alloc; "{option} has too many"),
-            )
-        }
-        AddressFault::BadAddress(number) => {
-            let part = number.saturating_add(1);
-            Failure::about(
-                Fault::from(fault),
-                format!(in alloc; "{option}, part {part}"),
-            )
-        }
-    }
-}
-
-/// Why the servers can't be asked.
-fn of_servers(alloc: Global, fault: Fault) -> Failure {
-    match fault {
-        Fault::Address(fault) => of_list(alloc, "--from", fault),
-        _ => Failure::from(fault),
-    }
-}
-
 /// What a relay is set to, before anything is opened.
 #[derive(Drop)]
 struct Plan {
@@ -251,41 +135,6 @@ fn kept(rt: &HostRuntime, options: &LiveOptions<'_>) -> Result<Option<Kept<File>
     match take_state(rt, path, options.contest, VERSION, options.is_new) {
         Ok(kept) => Ok(Some(to_be_read(rt, options, kept))),
         Err(fault) => Err(of_state(rt.alloc(), path, &fault)),
-    }
-}
-
-/// The servers of these options. What is wrong with them is found before what is wrong with the
-/// user: they are listed once for nobody in particular, since each borrows the identity.
-fn listed<'i>(
-    rt: &HostRuntime,
-    upstream: &UpstreamOptions<'_>,
-    contest: &str,
-    identity: &'i Identity,
-) -> Result<Vec<Server<'i>>, Failure> {
-    match servers_of(rt.alloc(), upstream, contest, identity) {
-        Ok(servers) => Ok(servers),
-        Err(fault) => Err(of_servers(rt.alloc(), fault)),
-    }
-}
-
-/// Looks whether the servers are named rightly.
-fn look_at_servers(rt: &HostRuntime, options: &LiveOptions<'_>) -> Result<(), Failure> {
-    let Some(upstream) = &options.upstream else {
-        return Ok(());
-    };
-    let hosts = Hosts::new(rt.alloc(), upstream)?;
-    let named = hosts.named(upstream);
-    let nobody = Identity::anonymous();
-    listed(rt, &named, options.contest, &nobody)?;
-    Ok(())
-}
-
-/// As whom servers are asked: as nobody in particular where the feed is the input.
-fn identity(rt: &HostRuntime, options: &LiveOptions<'_>) -> Result<Identity, Failure> {
-    look_at_servers(rt, options)?;
-    match &options.upstream {
-        Some(upstream) => identity_of(rt, upstream.host_header, upstream.user_file),
-        None => Ok(Identity::anonymous()),
     }
 }
 

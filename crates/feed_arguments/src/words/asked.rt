@@ -4,7 +4,7 @@ ghost use Rattle.clap.specs.Matches.{found_of};
 ghost use Rattle.clap.specs.Words.{rows_of, subcommand_rows_of};
 ghost use Rattle.feed_settings.specs.Limits.{Limits as LimitsOf, most_changes, most_commits};
 ghost use Rattle.feed_arguments.specs.Addresses.{most_port};
-ghost use Rattle.feed_arguments.specs.Live.{AreBothGiven, kept_bytes};
+ghost use Rattle.feed_arguments.specs.Live.{MayClash, kept_bytes};
 ghost use Rattle.feed_arguments.specs.Options.{most_rounds, most_silence};
 ghost use Rattle.feed_arguments.specs.Options.{text_at, SaysNumber, IsNumberUpTo, IsNumberIfGiven};
 ghost use Rattle.feed_arguments.specs.Options.{IsGiven, IsFramed, AsksLimits, AsksLimitsOr};
@@ -178,7 +178,7 @@ fn check_options(matches: &ArgMatches<'_>) -> CheckOptions
 }
 
 /// Whether no option says which servers are compared.
-fn compares_none(matches: &ArgMatches<'_>) -> bool
+pub(super) fn compares_none(matches: &ArgMatches<'_>) -> bool
     ensures yes { result ≡ true → ComparesNone (rows_of (found_of matches.now)) }
     ensures no { result ≡ false → ¬ (ComparesNone (rows_of (found_of matches.now))) }
 {
@@ -202,7 +202,7 @@ fn are_on_input(primary: &str, screen: Option<&str>) -> bool
 }
 
 /// Whether options of `audit` name standard input for both records.
-fn reads_input_twice(matches: &ArgMatches<'_>) -> bool {
+pub(super) fn reads_input_twice(matches: &ArgMatches<'_>) -> bool {
     match text(matches, "primary") {
         Some(primary) => are_on_input(primary, text(matches, "screen")),
         None => false,
@@ -314,7 +314,7 @@ fn patience(matches: &ArgMatches<'_>) -> Option<(u64, Option<u64>)>
 }
 
 /// What a server is told of who asks: its name, and the file with the user.
-fn identity<'a>(matches: &ArgMatches<'a>) -> (Option<&'a str>, Option<&'a str>)
+pub(super) fn identity<'a>(matches: &ArgMatches<'a>) -> (Option<&'a str>, Option<&'a str>)
     ensures host_header { text_at (codes "host-header") (rows_of (found_of matches.now))
         ≡ option_map (λ t. t.now) result.0 }
     ensures user_file { text_at (codes "user-file") (rows_of (found_of matches.now))
@@ -390,7 +390,7 @@ fn request_named<'a>(name: &str, matches: &ArgMatches<'a>) -> Option<Request<'a>
         (λ request. AsksBy name.now (rows_of (found_of matches.now)) request) }
     ensures none { result ≡ None → (request : Asked)
         → AsksBy name.now (rows_of (found_of matches.now)) request
-        → (name.now ≡ codes "live") × AreBothGiven (rows_of (found_of matches.now)) }
+        → (name.now ≡ codes "live") × MayClash (rows_of (found_of matches.now)) }
 {
     match name {
         "tables" => match tables_options(matches) {
@@ -417,20 +417,6 @@ fn request_named<'a>(name: &str, matches: &ArgMatches<'a>) -> Option<Request<'a>
             None => None,
         },
         _ => None,
-    }
-}
-
-/// Why the command that was entered asks for nothing.
-pub(super) fn refusal(matches: &ArgMatches<'_>) -> &'static str {
-    match matches.subcommand() {
-        Some(("audit", options)) if compares_none(options) && reads_input_twice(options) => {
-            "audit can read one record from standard input, and not both: \
-              give --primary or --screen the name of a file"
-        }
-        _ => {
-            "a number out of its range, or options that do not go together: \
-              audit takes --primary and --screen, or --of, --against and --contest"
-        }
     }
 }
 

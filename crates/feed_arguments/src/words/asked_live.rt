@@ -4,47 +4,18 @@ ghost use Rattle.clap.specs.Matches.{found_of};
 ghost use Rattle.clap.specs.Words.{rows_of};
 ghost use Rattle.feed_arguments.specs.Addresses.{most_port};
 ghost use Rattle.feed_arguments.specs.Live.{is_verbose as verbose_of, is_quiet as quiet_of};
-ghost use Rattle.feed_arguments.specs.Live.{AreBothGiven, IsUpstream, AsksLive};
+ghost use Rattle.feed_arguments.specs.Live.{AreBothGiven, MayClash, AsksLive};
 ghost use Rattle.feed_arguments.specs.Options.{IsNumberIfGiven, IsGiven};
 ghost use Rattle.feed_arguments.specs.declared.request.LiveOptions.{LiveOptions as Live};
 ghost use Rattle.feed_arguments.specs.declared.request.UpstreamOptions.{UpstreamOptions as Upstream};
 
-use super::asked::{
-    framing, is_given, live_limits, number, number_if_given, number_up_to, text, upstream_at,
-};
+use super::asked::{framing, is_given, live_limits, number, number_if_given, number_up_to, text};
+use super::followed::{Followed, Listener, feed_followed, listener_asked};
 use super::live::{
     MOST_HOLD, MOST_IDLE, MOST_PENDING, MOST_RETURN, MOST_SCREENS, MOST_SETTLE, MOST_WINDOW,
 };
-use super::options::MOST_PORT;
-use crate::request::{LiveOptions, UpstreamOptions, Verbosity};
+use crate::request::{LiveOptions, Verbosity};
 use clap::ArgMatches;
-
-/// A port that may be left out.
-fn port_if_given(matches: &ArgMatches<'_>, name: &str) -> Option<Option<u16>>
-    ensures some { IfSome result
-        (λ n. IsNumberIfGiven name.now most_port (rows_of (found_of matches.now)) n) }
-    ensures none { result ≡ None → (n : Option ℕ)
-        → ¬ (IsNumberIfGiven name.now most_port (rows_of (found_of matches.now)) n) }
-{
-    let port = number_if_given(matches, name, MOST_PORT)?;
-    Some(port.map(|port| port as u16))
-}
-
-/// What is followed: standard input where no server is given.
-fn upstream<'a>(matches: &ArgMatches<'a>) -> Option<Option<UpstreamOptions<'a>>>
-    ensures some { IfSome result
-        (λ upstream. IsUpstream (rows_of (found_of matches.now)) upstream) }
-    ensures none { result ≡ None → (upstream : Option Upstream)
-        → ¬ (IsUpstream (rows_of (found_of matches.now)) upstream) }
-{
-    if text(matches, "host").is_none() {
-        return Some(None);
-    }
-    match upstream_at(matches) {
-        Some(upstream) => Some(Some(upstream)),
-        None => None,
-    }
-}
 
 /// How much is reported.
 fn verbosity(matches: &ArgMatches<'_>) -> Option<Verbosity>
@@ -67,20 +38,15 @@ pub(super) fn live_options<'a>(matches: &ArgMatches<'a>) -> Option<LiveOptions<'
     ensures some { IfSome result (λ options. AsksLive (rows_of (found_of matches.now)) options) }
     ensures none { result ≡ None → (options : Live)
         → AsksLive (rows_of (found_of matches.now)) options
-        → AreBothGiven (rows_of (found_of matches.now)) }
+        → MayClash (rows_of (found_of matches.now)) }
 {
-    let contest = text(matches, "contest")?;
-    let Some(upstream) = upstream(matches) else {
-        return None;
-    };
-    let listen = port_if_given(matches, "listen")?;
+    let Followed { contest, upstream } = feed_followed(matches)?;
+    let listener = listener_asked(matches)?;
     let state = text(matches, "state");
-    if listen.is_none() && state.is_none() {
+    if listener.listen.is_none() && state.is_none() {
         return None;
     }
-    let address = text(matches, "address")?;
     let per_address = number_if_given(matches, "per-address", MOST_SCREENS)?;
-    let status = port_if_given(matches, "status")?;
     let screens = number(matches, "screens", MOST_SCREENS)?;
     let idle = number(matches, "idle", MOST_IDLE)?;
     let window = number(matches, "window", MOST_WINDOW)?;
@@ -93,12 +59,12 @@ pub(super) fn live_options<'a>(matches: &ArgMatches<'a>) -> Option<LiveOptions<'
     Some(LiveOptions {
         contest,
         upstream,
-        listen,
-        address,
+        listen: listener.listen,
+        address: listener.address,
         allow: text(matches, "allow"),
         per_address,
-        status,
-        status_address: text(matches, "status-address"),
+        status: listener.status,
+        status_address: listener.status_address,
         screens: screens as usize,
         idle,
         window,

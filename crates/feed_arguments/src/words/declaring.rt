@@ -1,8 +1,8 @@
 //! Options as a table has them: what stands after an option's name, whether it has to be given, and
 //! which other option it has to do with. A table is a `static`: the value of a `const` would be
 //! proved again in each function that names it.
-ghost use Rattle.std.specs.Prelude.{◌≡◌, List, map, false, IfOk};
-ghost use Rattle.clap.specs.Words.{App, Rule, app_of, rule_of};
+ghost use Rattle.std.specs.Prelude.{◌≡◌, ◌∷◌, List, map, false, IfOk};
+ghost use Rattle.clap.specs.Words.{AddsConflicts, App, Rule, app_of, rule_of};
 ghost use Rattle.feed_arguments.specs.Declaring.{IsDeclared, rule_by};
 ghost use Rattle.feed_arguments.specs.Declaring.{value_rule};
 ghost use Rattle.feed_arguments.specs.Options.{with_rules};
@@ -34,6 +34,8 @@ pub(super) enum Tie {
     Unless(&'static str),
     /// It may not be given with the other one.
     Excludes(&'static str),
+    /// It may not be given with this one, nor with any of those.
+    Replaces(&'static str, &'static [&'static str]),
 }
 
 /// An option.
@@ -85,8 +87,21 @@ impl Declared {
             Tie::Needs(other) => option.requires_arg(other),
             Tie::Unless(other) => option.required_unless_present(other),
             Tie::Excludes(other) => option.conflicts_with(other),
+            Tie::Replaces(first, others) => replacing(option, first, others),
         }
     }
+}
+
+/// The option, which may not be given with any of these.
+fn replacing(
+    option: Arg<'static>,
+    first: &'static str,
+    others: &'static [&'static str],
+) -> Result<Arg<'static>, AllocError>
+    ensures { IfOk result (λ r. AddsConflicts option.entry r (first.entry ∷ others.now)) }
+{
+    let option = option.conflicts_with(first)?;
+    option.conflicts_with_all(others)
 }
 
 /// An option of this name, with such a value.

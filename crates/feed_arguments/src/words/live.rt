@@ -38,9 +38,21 @@ pub(super) const MOST_RETURN: u64 = 3_600;
 pub(super) const MOST_HOLD: u64 = 3_600;
 
 /// The options that say what is followed.
-static UPSTREAM: [Declared; 13] = [
+static UPSTREAM: [Declared; 14] = [
     // What, and as whom.
-    CONTEST,
+    Declared {
+        required: false,
+        tie: Tie::Unless("url"),
+        ..CONTEST
+    },
+    Declared {
+        name: "url",
+        value: Value::Text("URL"),
+        help: "The feed that is followed, as http://10.0.0.5/api/contests/finals: in place of --host, \
+              --port, --base and --contest",
+        tie: Tie::Replaces("host", &["port", "base", "contest"]),
+        ..PLAIN
+    },
     Declared {
         name: "host",
         value: Value::Text("H"),
@@ -61,17 +73,13 @@ static UPSTREAM: [Declared; 13] = [
         ..BASE
     },
     Declared {
-        tie: Tie::Needs("host"),
+        help: "Further servers of the same log with the same tokens, as host:port,host:port, or by URLs \
+              as that of --url, of which each is asked where those before fail; never a shadow with \
+              event ids of its own",
         ..FROM
     },
-    Declared {
-        tie: Tie::Needs("host"),
-        ..HOST_HEADER
-    },
-    Declared {
-        tie: Tie::Needs("host"),
-        ..USER_FILE
-    },
+    HOST_HEADER,
+    USER_FILE,
     // How it is asked for, when it is shown, and until when it is followed.
     Declared {
         name: "settle",
@@ -119,16 +127,17 @@ static SCREENS: [Declared; 9] = [
     // To whom.
     Declared {
         name: "listen",
-        value: Value::Number("Q", 1, MOST_PORT),
-        help: "The port that screens come to; without it there has to be --state",
+        value: Value::Text("Q"),
+        help: "The port that screens come to, with an address before it or without one, as 8001, \
+              0.0.0.0:8001 or [::]:8001; without it there has to be --state",
         tie: Tie::Unless("state"),
         ..PLAIN
     },
     Declared {
         name: "address",
         value: Value::Text("A"),
-        help: "The address of this machine that screens come to, as 0.0.0.0 or ::",
-        default: Some("127.0.0.1"),
+        help: "The address of this machine that screens come to, as 0.0.0.0 or ::; \
+              without it that of --listen, or 127.0.0.1",
         tie: Tie::Needs("listen"),
         ..PLAIN
     },
@@ -230,8 +239,9 @@ static STATE: [Declared; 7] = [
 static WATCHING: [Declared; 4] = [
     Declared {
         name: "status",
-        value: Value::Number("PORT", 1, MOST_PORT),
-        help: "A further port, with a page, JSON and metrics on the relay",
+        value: Value::Text("PORT"),
+        help: "A further port, with a page, JSON and metrics on the relay; with an address before it or \
+              without one, as that of --listen",
         ..PLAIN
     },
     Declared {

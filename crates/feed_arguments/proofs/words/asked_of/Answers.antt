@@ -29,7 +29,7 @@ returns-clause-err c =
     let found = c.in_ok-matches.ensures.ok.2 (ap is_simple is ∙ line_is_simple) in
     let entered : subcommand_rows_of c.in_ok-matches.matches ≡ subcommand_of command_line words =
     found.1 ∙ ap (λ a. subcommand_of a words) is in
-    subst (RefusesBy words) (sym c.in_ok-error-in-None.ensures.kind) (λ taken asked asks.
+    subst (RefusesBy words) (sym c.in_ok-error-in-None.ensures) (λ taken asked asks.
     let is_live = c.request_entered.ensures.none (search rules) asked (subst (λ e. AsksAt e asked) (sym entered) asks)
     in
     live_is_not_taken words (subst (λ e. option_map (λ p. p.0) e ≡ Some (codes "live")) entered is_live) taken)

@@ -1,5 +1,5 @@
 use Rattle.std.proofs.lemmas.Result.{IfOk-weaker}
-use Rattle.feed_arguments.proofs.DeclaringLemmas.{excludes_is, free_is, needs_is, unless_is}
+use Rattle.feed_arguments.proofs.DeclaringLemmas.{excludes_is, free_is, needs_is, replaces_is, unless_is}
 use Rattle.feed_arguments.proofs.words.declaring.Declared.arg.Goals as goal
 
 pub returns-in-Free : goal.returns-in-Free
@@ -25,3 +25,10 @@ returns-in-Excludes c =
     (λ option adds. excludes_is c.args.self c.untied-option.result option _ c.in-Excludes.is
     c.untied-option.ensures.rule c.untied-option.ensures.local adds)
     c.conflicts_with.ensures
+
+pub returns-in-Replaces : goal.returns-in-Replaces
+returns-in-Replaces c =
+    IfOk-weaker c.replacing.result _ _
+    (λ option adds. replaces_is c.args.self c.untied-option.result option _ _ c.in-Replaces.is
+    c.untied-option.ensures.rule c.untied-option.ensures.local adds)
+    c.replacing.ensures
