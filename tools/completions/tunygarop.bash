@@ -58,7 +58,7 @@ _tunygarop() {
             names="host port from contest base host-header user-file turns silence resume verbose history staged memory listen count chunked"
             ;;
         live)
-            names="contest url host port base from host-header user-file settle fresh serve-broken no-recheck return until-eof listen address screens allow per-address idle window pending chunked state new hold serve-old history staged memory status status-address verbose quiet"
+            names="contest url host port base from host-header user-file settle fresh serve-broken no-recheck return until-eof listen address screens allow per-address idle window pending chunked state new hold serve-old history staged memory status status-address check verbose quiet"
             ;;
         help)
             [ "$COMP_CWORD" -eq 2 ] && mapfile -t COMPREPLY < <(compgen -W "$commands" -- "$word")

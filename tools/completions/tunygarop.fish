@@ -48,6 +48,7 @@ complete -c tunygarop -n '__fish_seen_subcommand_from check' -l verbose -d 'Coun
 complete -c tunygarop -n '__fish_seen_subcommand_from audit' -l verbose -d 'Print objects that differ whole'
 complete -c tunygarop -n '__fish_seen_subcommand_from serve pull relay' -l verbose -d 'Report each connection, too'
 complete -c tunygarop -n '__fish_seen_subcommand_from live' -l url -x -d 'Feed that is followed, as http://10.0.0.5/api/contests/finals'
+complete -c tunygarop -n '__fish_seen_subcommand_from live' -l check -d 'Look whether a relay of these options could start'
 complete -c tunygarop -n '__fish_seen_subcommand_from live' -l listen -x -d 'Port that screens come to, as 8001 or 0.0.0.0:8001'
 complete -c tunygarop -n '__fish_seen_subcommand_from live' -l address -x -d 'Address of this machine that screens come to'
 complete -c tunygarop -n '__fish_seen_subcommand_from live' -l screens -x -d 'How many screens are served at once, 1 to 10000'

@@ -128,6 +128,9 @@ history = with_default (codes "65536") (number_in (codes "history") most_commits
 abbrev pub until_eof : Rule
 until_eof = flag (codes "until-eof")
 
+abbrev pub check : Rule
+check = flag (codes "check")
+
 abbrev pub verbose : Rule
 verbose = tied (flag (codes "verbose"))
 
@@ -161,7 +164,7 @@ limits = history ∷ options.staged ∷ options.memory ∷ []
 
 -- those that say where it is watched, and what it reports
 abbrev pub watching : List Rule
-watching = status ∷ status_address ∷ verbose ∷ quiet ∷ []
+watching = status ∷ status_address ∷ check ∷ verbose ∷ quiet ∷ []
 
 abbrev pub live : App
 live =
@@ -294,6 +297,7 @@ pub record AsksLive (rows : List Row) (options : LiveOptions) : Type 0 where
   pub serve_old_is : IsGiven (codes "serve-old") rows options.serve_old
   pub serve_broken_is : IsGiven (codes "serve-broken") rows options.serve_broken
   pub until_eof_is : IsGiven (codes "until-eof") rows options.until_eof
+  pub check_is : IsGiven (codes "check") rows options.check
   pub verbose_is : IsGiven (codes "verbose") rows (is_verbose options.verbosity)
   pub quiet_is : IsGiven (codes "quiet") rows (is_quiet options.verbosity)
   pub limits_are : AsksLimitsOr (Some kept_bytes) rows options.limits

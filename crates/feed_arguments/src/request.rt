@@ -197,6 +197,8 @@ pub struct LiveOptions<'a> {
     pub serve_broken: bool,
     /// Whether the command ends where standard input does.
     pub until_eof: bool,
+    /// Whether it is only looked at whether a relay of these options could start.
+    pub check: bool,
     /// How much is reported.
     pub verbosity: Verbosity,
     /// The limits of the node that is served.

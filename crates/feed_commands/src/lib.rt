@@ -29,7 +29,7 @@ pub use feed_audit::AuditFault;
 pub use feed_http::{device, memory, stream};
 pub use feed_play::{PlayCause, PlayFault, play};
 pub use feed_records::{Replayed, ScreenLines, Skipped, TextLines, Unread};
-pub use feed_relay::{Accept, Dial, NetworkFault, Server};
+pub use feed_relay::{Accept, AttemptEnd, Dial, NetworkFault, Server, follow_first};
 pub use placing::{Counting, Spot};
 pub use record_lines::{RecordLines, Recording};
 pub use reporting::{report, report_about, report_more, report_text, report_with};

@@ -10,5 +10,6 @@ status_for (why.Fault fault more) = status_of fault
 status_for (why.At fault host port) = status_of fault
 status_for (why.About fault what) = status_of fault
 status_for (why.ReportedAs fault text) = status_of fault
+status_for (why.Told fault text) = status_of fault
 status_for (why.Refused text) = 1
 status_for (why.RefusedFor text) = 1

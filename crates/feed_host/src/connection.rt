@@ -1,5 +1,7 @@
 //! A connection over TCP: what is read from it and written to it, and how it ends.
 
+ghost use Rattle.std.specs.Prelude.{◌≡◌};
+
 use feed_commands::device::{Failed, FeedRead, FeedWrite};
 use feed_http::head_reading::READ_BYTES;
 use std::alloc::{AllocError, Global};
@@ -64,6 +66,8 @@ impl Passed {
 pub(crate) struct Incoming {
     stream: TcpStream,
     passed: Passed,
+    // How long it may be silent once something came, where that is another time than before.
+    pause: Option<Duration>,
     reads: u64,
     failures: u64,
 }
@@ -84,6 +88,7 @@ pub(crate) fn both_ways(rt: &HostRuntime, stream: TcpStream) -> Option<(Incoming
     let incoming = Incoming {
         stream: reader,
         passed: Passed::new(),
+        pause: None,
         reads: 0,
         failures: 0,
     };
@@ -96,6 +101,29 @@ pub(crate) fn both_ways(rt: &HostRuntime, stream: TcpStream) -> Option<(Incoming
     Some((incoming, outgoing))
 }
 
+impl Incoming {
+    /// It may be silent for so long once something came.
+    pub(crate) fn pauses(&mut self, pause: Option<Duration>) {
+        self.pause = pause;
+    }
+
+    /// Something came.
+    fn hear(&mut self, bytes: &[u8])
+        ensures reads { self.new.reads ≡ self.old.reads }
+        ensures failures { self.new.failures ≡ self.old.failures }
+    {
+        self.passed.count(bytes);
+        if let Some(pause) = self.pause.take() {
+            let _ = self.stream.set_read_timeout(Some(pause));
+        }
+    }
+
+    /// The status of the answer that came; 0 where there was none.
+    pub(crate) fn status(&self) -> u16 {
+        self.passed.status()
+    }
+}
+
 impl FeedRead for Incoming {
     ghost reads = { λ r. r.reads };
 
@@ -105,7 +133,7 @@ impl FeedRead for Incoming {
         self.reads = self.reads.saturating_add(1);
         match self.stream.read(buf) {
             Ok(count) => {
-                self.passed.count(buf.get(..count).unwrap_or(&[]));
+                self.hear(buf.get(..count).unwrap_or(&[]));
                 Ok(count)
             }
             Err(_) => {

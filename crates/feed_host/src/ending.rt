@@ -28,6 +28,8 @@ enum Why {
     About(Fault, String),
     /// For a fault, which this text tells.
     ReportedAs(Fault, &'static str),
+    /// The same, where the text names what it is about.
+    Told(Fault, String),
     /// Its options can't be taken: this text says which.
     Refused(&'static str),
     /// The same, where the text names what is in the way.
@@ -90,6 +92,19 @@ impl Failure {
     {
         Failure {
             why: Why::ReportedAs(fault, text),
+        }
+    }
+
+    /// The same, where the text names what it is about; where there is no memory for it, the fault
+    /// alone.
+    pub fn told(fault: Fault, text: Result<String, AllocError>) -> Failure
+        ensures { status_for result.why ≡ status_of fault }
+    {
+        match text {
+            Ok(text) => Failure {
+                why: Why::Told(fault, text),
+            },
+            Err(_) => Failure::from(fault),
         }
     }
 
@@ -166,6 +181,7 @@ pub fn ended<E: FeedWrite>(name: &str, outcome: Result<(), Failure>, err: &mut E
         Why::At(fault, host, port) => report_about(name, fault, Some((host.as_str(), port)), err),
         Why::About(fault, what) => report_with(name, fault, what.as_str(), err),
         Why::ReportedAs(fault, text) => report_text(name, text, fault.status(), err),
+        Why::Told(fault, text) => report_text(name, text.as_str(), fault.status(), err),
         Why::Refused(text) => report_text(name, text, REFUSED, err),
         Why::RefusedFor(text) => report_text(name, text.as_str(), REFUSED, err),
     }

@@ -3,6 +3,7 @@ ghost use Rattle.std.specs.Prelude.{◌≡◌};
 
 use crate::connection::{Incoming, Outgoing, both_ways, linger, text_of_asked, text_of_served};
 use crate::errors::Reporter;
+use crate::looking::Passed;
 use feed_answer::without_brackets;
 use feed_commands::{Accept, Dial, Fault, NetworkFault, PullOptions, Server};
 use std::io;
@@ -15,10 +16,13 @@ pub(crate) struct Dialer<'r, 's> {
     rt: &'r HostRuntime,
     reporter: Reporter<'r>,
     servers: &'s [Server<'s>],
-    // How long each may be silent.
+    // How long each may be silent, and how long once it answers, where that is another time.
     silence: Option<Duration>,
+    pause: Option<Duration>,
     // The server of the connection that is open.
     server: usize,
+    // What came of the last connection.
+    passed: Passed,
     misses: u64,
 }
 
@@ -60,20 +64,58 @@ impl<'r, 's> Dialer<'r, 's> {
             reporter,
             servers,
             silence: options.silence.map(Duration::from_secs),
+            pause: None,
             server: 0,
+            passed: Passed::nothing(),
             misses: 0,
         }
     }
 
+    /// The same, where servers are looked at, and nothing is reported of that.
+    pub(crate) fn looking(
+        rt: &'r HostRuntime,
+        servers: &'s [Server<'s>],
+        silence: Duration,
+        pause: Duration,
+    ) -> Dialer<'r, 's> {
+        Dialer {
+            rt,
+            reporter: Reporter::new(rt, "live", false),
+            servers,
+            silence: Some(silence),
+            pause: Some(pause),
+            server: 0,
+            passed: Passed::nothing(),
+            misses: 0,
+        }
+    }
+
+    /// What came of the last connection.
+    pub(crate) fn passed(&self) -> Passed {
+        self.passed
+    }
+
     /// Connects to the server with this number.
-    fn open(&self, number: usize) -> Option<(Incoming, Outgoing)> {
+    fn open(&mut self, number: usize) -> Option<(Incoming, Outgoing)>
+        ensures { self.new.misses ≡ self.old.misses }
+    {
         let server = self.servers.get(number)?;
         let host = without_brackets(server.host.as_str());
         let connected = match self.silence {
             Some(silence) => connect_within(self.rt, host, server.port, silence),
             None => TcpStream::connect(self.rt, (host, server.port)),
         };
-        both_ways(self.rt, connected.ok()?)
+        match connected {
+            Ok(stream) => {
+                let (mut incoming, outgoing) = both_ways(self.rt, stream)?;
+                incoming.pauses(self.pause);
+                Some((incoming, outgoing))
+            }
+            Err(error) => {
+                self.passed.reason = Some(error.kind());
+                None
+            }
+        }
     }
 
     /// Reports what came of asking the server with this number.
@@ -101,6 +143,7 @@ impl Dial for Dialer<'_, '_> {
     ghost closes = { λ _ _ _ _. Unit {0} };
 
     fn dial(&mut self, place: usize) -> Option<(Incoming, Outgoing)> {
+        self.passed = Passed::nothing();
         let opened = self.open(place);
         self.server = place;
         if opened.is_none() {
@@ -111,6 +154,7 @@ impl Dial for Dialer<'_, '_> {
     }
 
     fn close(&mut self, reader: Incoming, writer: Outgoing) {
+        self.passed.status = reader.status();
         if let Ok(came) = text_of_asked(self.rt, &reader, &writer) {
             self.report(self.server, came.as_str());
         }

@@ -2,11 +2,13 @@
 //! those who start and watch it.
 #![tactic(auto)]
 
+mod checking;
 mod making;
 mod restoring;
 mod servers;
 mod watching;
 
+pub use checking::check;
 pub use making::{Made, fault_of_system, make};
 pub use restoring::report_of;
 pub use watching::{

@@ -16,7 +16,7 @@ use std::net::SocketAddr;
 use std::time::Instant;
 
 /// Why a state file is refused whose name is empty.
-const NO_NAME: &str = "--state names no file";
+pub(crate) const NO_NAME: &str = "--state names no file";
 
 /// Why an address can't be listened at that this machine doesn't have.
 const NOT_OURS: &str = "no address of this machine";
@@ -72,7 +72,7 @@ fn of_port(alloc: Global, address: SocketAddr, reason: ErrorKind) -> Failure {
 }
 
 /// Why there is nothing to run on.
-fn failure_of(alloc: Global, fault: StartFault) -> Failure {
+pub(crate) fn failure_of(alloc: Global, fault: StartFault) -> Failure {
     match fault {
         StartFault::Memory => Failure::from(Fault::Memory),
         StartFault::System => Failure::from(Fault::Read),
@@ -96,7 +96,7 @@ struct Plan {
 }
 
 /// Why a state file is not taken.
-fn of_state(alloc: Global, path: &str, fault: &StateFault) -> Failure {
+pub(crate) fn of_state(alloc: Global, path: &str, fault: &StateFault) -> Failure {
     match fault {
         StateFault::Memory => Failure::from(Fault::Memory),
         _ => Failure::refused_for(fault.report(alloc, path), fault.text()),

@@ -201,7 +201,7 @@ fn listed<'i>(
 }
 
 /// The servers that a relay of these options may ask, none of which is the relay itself.
-fn listed_servers<'i>(
+pub(crate) fn listed_servers<'i>(
     rt: &HostRuntime,
     options: &LiveOptions<'_>,
     upstream: &UpstreamOptions<'_>,
@@ -243,7 +243,7 @@ pub(crate) fn servers(
 
 /// Looks whether the servers are named rightly: they are listed once for nobody in particular,
 /// since each borrows the identity.
-fn look_at_servers(rt: &HostRuntime, options: &LiveOptions<'_>) -> Result<(), Failure> {
+pub(crate) fn look_at_servers(rt: &HostRuntime, options: &LiveOptions<'_>) -> Result<(), Failure> {
     let Some(upstream) = &options.upstream else {
         return Ok(());
     };

@@ -213,6 +213,28 @@ fn connection<'r>(
     Ok(Servers::new(rt, registry, LINK, hosts)?)
 }
 
+/// The ports that could be listened at.
+#[derive(Clone, Copy)]
+pub struct Bound {
+    /// Where screens come to, where they are served.
+    pub screens: Option<SocketAddr>,
+    /// Where those come to who watch the relay, where they may.
+    pub watchers: Option<SocketAddr>,
+}
+
+/// Listens at the ports that are asked for, as `open` does, and lets them go.
+pub fn try_ports(rt: &HostRuntime, options: &LiveOptions<'_>) -> Result<Bound, StartFault> {
+    drop(allowed(rt.alloc(), options)?);
+    let watchers = status_address(options)?;
+    let screens = screens_address(options)?;
+    let poll = Poll::new(rt)?;
+    let watched = listener_of(rt, &poll, watchers, WATCHERS)?;
+    let listened = listener_of(rt, &poll, screens, LISTENER)?;
+    drop(watched);
+    drop(listened);
+    Ok(Bound { screens, watchers })
+}
+
 /// The files that the state is kept in, where it is kept.
 fn store_of(rt: &HostRuntime, kept: Option<Kept<File>>) -> StateStore<&HostRuntime> {
     match kept {

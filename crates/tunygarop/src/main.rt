@@ -9,6 +9,7 @@ use feed_compare::compare_servers;
 use feed_host::{
     Errors, Failure, audit_records, ended, input_ahead, pull_feed, relay_feed, serve_feed,
 };
+use feed_process::check;
 use feed_system::hold_standard;
 use live::live_feed;
 use std::io::ErrorKind;
@@ -53,6 +54,7 @@ fn run_request<'a>(rt: &HostRuntime, request: &Request<'_>, words: &'a [&'a str]
         Request::Serve(options) => end(rt, "serve", serve_feed(rt, options)),
         Request::Pull(options) => end(rt, "pull", pull_feed(rt, options)),
         Request::Relay(options) => end(rt, "relay", relay_feed(rt, options)),
+        Request::Live(options) if options.check => check(rt, options),
         Request::Live(options) => end(rt, "live", live_feed(rt, options)),
     }
 }

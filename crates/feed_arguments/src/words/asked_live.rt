@@ -80,6 +80,7 @@ pub(super) fn live_options<'a>(matches: &ArgMatches<'a>) -> Option<LiveOptions<'
         serve_old: is_given(matches, "serve-old"),
         serve_broken: is_given(matches, "serve-broken"),
         until_eof: is_given(matches, "until-eof"),
+        check: is_given(matches, "check"),
         verbosity,
         limits,
     })

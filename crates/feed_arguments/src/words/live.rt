@@ -236,7 +236,7 @@ static STATE: [Declared; 7] = [
 ];
 
 /// The options that say where it is watched, and what it reports.
-static WATCHING: [Declared; 4] = [
+static WATCHING: [Declared; 5] = [
     Declared {
         name: "status",
         value: Value::Text("PORT"),
@@ -249,6 +249,12 @@ static WATCHING: [Declared; 4] = [
         value: Value::Text("A"),
         help: "The address that port is at; without it that of --address",
         tie: Tie::Needs("status"),
+        ..PLAIN
+    },
+    Declared {
+        name: "check",
+        help: "Look whether a relay of these options could start: at each server, the files and the ports; \
+              print a line for each, and end",
         ..PLAIN
     },
     Declared {
