@@ -199,8 +199,8 @@ def has_path(path, sources, text, file, function):
 
 
 def clauses_of(text, function):
-    """The clauses that a function has; of one that a trait asks for, those of the trait."""
-    if not is_of_trait(text, function):
+    """The clauses that a function has; of one that a trait asks for, and that has none of its own, those of the trait."""
+    if function.clauses or not is_of_trait(text, function):
         return function.clauses
     return asked_of(owner(text, function)[1]).get(function.name, [])
 
