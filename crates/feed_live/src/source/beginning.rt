@@ -270,8 +270,8 @@ impl Source {
         Ok(Some(Again::new(alloc, shown.limits())?))
     }
 
-    /// What comes afresh is noted. Where its tokens are no positions in what is sent, everything is
-    /// asked for from here on: what comes after one of them is over.
+    /// What comes afresh is noted. Where its tokens are no positions in what is sent, nothing goes on
+    /// from one of them, and everything is asked for from here on: what comes after one is over.
     pub(crate) fn note_beginning(&mut self, desk: &mut Desk)
         ensures same { SameSource self.old self.new }
         ensures times { SameTimes self.old self.new }
@@ -281,7 +281,11 @@ impl Source {
         let Some(coming) = &self.coming else {
             return;
         };
-        if !self.beginning.note(coming) || is_always {
+        if !self.beginning.note(coming) {
+            return;
+        }
+        self.settling.differ();
+        if is_always {
             return;
         }
         let token = Excerpt::of(coming.since().unwrap_or(""));

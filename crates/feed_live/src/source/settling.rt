@@ -152,6 +152,14 @@ impl Settling {
         self.was_alone = false;
     }
 
+    /// What comes does not go on from what is shown, whatever it has at that token.
+    pub(crate) fn differ(&mut self)
+        ensures { self.new ≡ record self.old { is_compared = true; is_same = false } }
+    {
+        self.is_compared = true;
+        self.is_same = false;
+    }
+
     /// Each connection asks for everything from here on.
     pub(crate) fn ask_all(&mut self)
         ensures { self.new ≡ record self.old { is_always = true } }
