@@ -270,8 +270,8 @@ impl Source {
         Ok(Some(Again::new(alloc, shown.limits())?))
     }
 
-    /// What comes afresh is noted. Where its tokens are no positions in what is sent, nothing goes on
-    /// from one of them, and everything is asked for from here on: what comes after one is over.
+    /// What comes afresh is noted. Where its tokens are no positions in what is sent, nothing goes
+    /// on from one of them, and everything is asked for from here on: what comes after one is over.
     pub(crate) fn note_beginning(&mut self, desk: &mut Desk)
         ensures same { SameSource self.old self.new }
         ensures times { SameTimes self.old self.new }
