@@ -163,12 +163,12 @@ quiet_time returning is_first all_left =
 
 -- A server may be left for having nothing new: there is another one, nothing that came waits, and
 -- nothing is to settle. The relay is set to leave one so, and the first one's log did not just take
--- the place of ours.
+-- the place of ours. Nor is everything asked for each time.
 abbrev pub may_be_left : Source → Bool
 may_be_left source =
     is_none source.coming && nat_le 2 (length source.places.items) && not source.has_more
     && nat_eq (length source.rest.items) 0 && not (nat_eq source.returning.after 0)
-    && not source.leading.is_alone
+    && not source.leading.is_alone && not source.settling.is_always
 
 abbrev pub quiet_since : Source → ℕ
 quiet_since source =

@@ -40,7 +40,8 @@ impl Source {
 
     /// Whether a server whose answer is read may be left for another one: nothing that came waits,
     /// and nothing is to settle. The relay is set to leave one so, and the first one's log did not
-    /// just take the place of ours.
+    /// just take the place of ours. Nor is everything asked for each time: that would have to
+    /// settle again.
     pub(crate) fn may_be_left(&self) -> bool
         ensures { result ≡ may_be_left self.now }
     {
@@ -50,6 +51,7 @@ impl Source {
             && self.rest.is_empty()
             && self.returning.may_leave()
             && !self.leading.is_alone()
+            && !self.is_always_fresh()
     }
 
     /// When the first server is looked at.
