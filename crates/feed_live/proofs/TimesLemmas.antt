@@ -157,10 +157,10 @@ heeds_link_same {a} {b} {waits} {before} {between} {after} {later} same calls ca
       reads = λ may. heeds.reads (record { reads = same.reach ∙ may.reads; rest = same.rest ∙ may.rest; said = may.said });
     }))
 
-none_of : (a b c d e f : Bool) → c ≡ false → (a && b && c && d && e && f) ≡ false
-none_of false b c d e f is = refl
-none_of true false c d e f is = refl
-none_of true true c d e f is = ap (λ x. x && d && e && f) is
+none_of : (a b c d e f g : Bool) → c ≡ false → (a && b && c && d && e && f && g) ≡ false
+none_of false b c d e f g is = refl
+none_of true false c d e f g is = refl
+none_of true true c d e f g is = ap (λ x. x && d && e && f && g) is
 
 -- whoever has more to read has something new
 more_is_new : (source : Source) (reach : Reach) (now : ℕ) → source.has_more ≡ true → is_past (quiet_at source reach) now ≡ false
@@ -168,7 +168,7 @@ more_is_new source Away now more = refl
 more_is_new source (Connects since) now more = refl
 more_is_new source (Asks count) now more = refl
 more_is_new source Reads now more =
-    let not_left : may_be_left source ≡ false = none_of (is_none source.coming) (nat_le 2 (length source.places.items)) (not source.has_more) (nat_eq (length source.rest.items) 0) (not (nat_eq source.returning.after 0)) (not source.leading.is_alone) (ap not more) in
+    let not_left : may_be_left source ≡ false = none_of (is_none source.coming) (nat_le 2 (length source.places.items)) (not source.has_more) (nat_eq (length source.rest.items) 0) (not (nat_eq source.returning.after 0)) (not source.leading.is_alone) (not source.settling.is_always) (ap not more) in
     ap (λ may. is_past (if may && not (is_only_other source) then option_map (λ since. quiet_since source) source.body_since else None) now) not_left
 
 -- and the first one isn't looked at
@@ -177,7 +177,7 @@ more_is_no_look source Away now more = refl
 more_is_no_look source (Connects since) now more = refl
 more_is_no_look source (Asks count) now more = refl
 more_is_no_look source Reads now more =
-    let not_left : may_be_left source ≡ false = none_of (is_none source.coming) (nat_le 2 (length source.places.items)) (not source.has_more) (nat_eq (length source.rest.items) 0) (not (nat_eq source.returning.after 0)) (not source.leading.is_alone) (ap not more) in
+    let not_left : may_be_left source ≡ false = none_of (is_none source.coming) (nat_le 2 (length source.places.items)) (not source.has_more) (nat_eq (length source.rest.items) 0) (not (nat_eq source.returning.after 0)) (not source.leading.is_alone) (not source.settling.is_always) (ap not more) in
     ap (λ may. is_past (if may && is_looked_at source then option_map (λ since. max source.leading.look_at (later since 2000)) source.body_since else None) now) not_left
 
 newest_same : {a b : Source} → SameWaiting a b → b.is_heard ≡ a.is_heard → newest_time b ≡ newest_time a
@@ -189,9 +189,9 @@ newest_same {a} {b} waiting heard =
 -- ---- none came
 
 -- a server may be left, and the first one is looked at
-may_by : Bool → List Place → Bool → List ℕ → Returning → Leading → Bool
-may_by fresh places more rest returning leading =
-    fresh && nat_le 2 (length places) && not more && nat_eq (length rest) 0 && not (nat_eq returning.after 0) && not leading.is_alone
+may_by : Bool → List Place → Bool → List ℕ → Returning → Leading → Bool → Bool
+may_by fresh places more rest returning leading always =
+    fresh && nat_le 2 (length places) && not more && nat_eq (length rest) 0 && not (nat_eq returning.after 0) && not leading.is_alone && not always
 
 looked_by : Leading → ℕ → Bool → Bool
 looked_by leading place always = is_instead leading place && not always
@@ -218,12 +218,13 @@ look_by may leading always place since (Asks count) = None
 may_same : {a b : Source} → SameSource a b → SameWaiting a b → b.has_more ≡ a.has_more → may_be_left b ≡ may_be_left a
 unfolding may_by
 may_same {a} {b} same waiting more =
-    ap (λ c. may_by (is_none c) b.places.items b.has_more b.rest.items b.returning b.leading) same.coming
-    ∙ ap (λ s. may_by (is_none a.coming) s.places b.has_more b.rest.items b.returning b.leading) same.servers
-    ∙ ap (λ m. may_by (is_none a.coming) a.places.items m b.rest.items b.returning b.leading) more
-    ∙ ap (λ r. may_by (is_none a.coming) a.places.items a.has_more r b.returning b.leading) same.rest
-    ∙ ap (λ r. may_by (is_none a.coming) a.places.items a.has_more a.rest.items r b.leading) waiting.returning
-    ∙ ap (λ l. may_by (is_none a.coming) a.places.items a.has_more a.rest.items a.returning l) waiting.leading
+    ap (λ c. may_by (is_none c) b.places.items b.has_more b.rest.items b.returning b.leading b.settling.is_always) same.coming
+    ∙ ap (λ s. may_by (is_none a.coming) s.places b.has_more b.rest.items b.returning b.leading b.settling.is_always) same.servers
+    ∙ ap (λ m. may_by (is_none a.coming) a.places.items m b.rest.items b.returning b.leading b.settling.is_always) more
+    ∙ ap (λ r. may_by (is_none a.coming) a.places.items a.has_more r b.returning b.leading b.settling.is_always) same.rest
+    ∙ ap (λ r. may_by (is_none a.coming) a.places.items a.has_more a.rest.items r b.leading b.settling.is_always) waiting.returning
+    ∙ ap (λ l. may_by (is_none a.coming) a.places.items a.has_more a.rest.items a.returning l b.settling.is_always) waiting.leading
+    ∙ ap (λ s. may_by (is_none a.coming) a.places.items a.has_more a.rest.items a.returning a.leading s.is_always) waiting.settling
 
 quiet_is : (source : Source) (reach : Reach) → quiet_at source reach ≡ quiet_by (may_be_left source) source.places.items source.returning source.leading source.settling.is_always source.upstream.place source.body_since reach
 unfolding quiet_by looked_by kept_by
