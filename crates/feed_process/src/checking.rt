@@ -9,7 +9,7 @@ use feed_answer::Identity;
 use feed_commands::stream::Stream;
 use feed_commands::{Fault, LiveOptions, NetworkFault, Server, UpstreamOptions};
 use feed_host::{Failure, Hosts, ended, lack_of_files, look_at};
-use feed_system::{Bound, try_ports};
+use feed_system::{FreePorts, try_ports};
 use state::look_at_state;
 use std::alloc::{AllocError, Global};
 use std::net::SocketAddr;
@@ -148,7 +148,7 @@ fn note_port(alloc: Global, what: &str, address: Option<SocketAddr>, findings: &
 fn look_at_ports(rt: &HostRuntime, options: &LiveOptions<'_>, findings: &mut Findings<'_>) {
     let alloc = rt.alloc();
     match try_ports(rt, options) {
-        Ok(Bound { screens, watchers }) => {
+        Ok(FreePorts { screens, watchers }) => {
             note_port(alloc, "port", screens, findings);
             note_port(alloc, "status port", watchers, findings);
         }

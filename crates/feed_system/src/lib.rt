@@ -19,7 +19,7 @@ mod watchers;
 pub use descriptors::{Placeholders, hold_standard};
 pub use hosts::ServerName;
 pub use link::Servers;
-pub use opening::{Bound, Resources, StartFault, open, try_ports};
+pub use opening::{FreePorts, Resources, StartFault, open, try_ports};
 pub use pair::Pair;
 pub use procfs::{process, since_1970};
 pub use reporting::restored_text;

@@ -215,7 +215,7 @@ fn connection<'r>(
 
 /// The ports that could be listened at.
 #[derive(Clone, Copy)]
-pub struct Bound {
+pub struct FreePorts {
     /// Where screens come to, where they are served.
     pub screens: Option<SocketAddr>,
     /// Where those come to who watch the relay, where they may.
@@ -223,7 +223,7 @@ pub struct Bound {
 }
 
 /// Listens at the ports that are asked for, as `open` does, and lets them go.
-pub fn try_ports(rt: &HostRuntime, options: &LiveOptions<'_>) -> Result<Bound, StartFault> {
+pub fn try_ports(rt: &HostRuntime, options: &LiveOptions<'_>) -> Result<FreePorts, StartFault> {
     drop(allowed(rt.alloc(), options)?);
     let watchers = status_address(options)?;
     let screens = screens_address(options)?;
@@ -232,7 +232,7 @@ pub fn try_ports(rt: &HostRuntime, options: &LiveOptions<'_>) -> Result<Bound, S
     let listened = listener_of(rt, &poll, screens, LISTENER)?;
     drop(watched);
     drop(listened);
-    Ok(Bound { screens, watchers })
+    Ok(FreePorts { screens, watchers })
 }
 
 /// The files that the state is kept in, where it is kept.
