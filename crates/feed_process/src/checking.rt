@@ -7,7 +7,7 @@ use crate::making::failure_of;
 use crate::servers::{identity, listed_servers, look_at_servers};
 use feed_answer::Identity;
 use feed_commands::stream::Stream;
-use feed_commands::{Fault, LiveOptions, NetworkFault, Server, UpstreamOptions};
+use feed_commands::{Fault, LiveOptions, NetworkFault, Server};
 use feed_host::{Failure, Hosts, ended, lack_of_files, look_at};
 use feed_system::{FreePorts, try_ports};
 use state::look_at_state;
@@ -111,11 +111,13 @@ fn look_at_one(rt: &HostRuntime, server: &Server<'_>, findings: &mut Findings<'_
 fn look_at_each(
     rt: &HostRuntime,
     options: &LiveOptions<'_>,
-    upstream: &UpstreamOptions<'_>,
     findings: &mut Findings<'_>,
 ) -> Result<(), Failure> {
     look_at_servers(rt, options)?;
     let identity = look_at_user(rt, options, findings);
+    let Some(upstream) = &options.upstream else {
+        return Ok(());
+    };
     let hosts = Hosts::new(rt.alloc(), upstream)?;
     let named = hosts.named(upstream);
     let servers = listed_servers(rt, options, &named, &identity)?;
@@ -127,11 +129,11 @@ fn look_at_each(
 
 /// Looks at what is followed.
 fn look_upstream(rt: &HostRuntime, options: &LiveOptions<'_>, findings: &mut Findings<'_>) {
-    let Some(upstream) = &options.upstream else {
+    if options.upstream.is_none() {
         findings.note("input", said(rt.alloc(), "it isn't read now"));
         return;
-    };
-    if let Err(failure) = look_at_each(rt, options, upstream, findings) {
+    }
+    if let Err(failure) = look_at_each(rt, options, findings) {
         findings.note("servers", Err(failure));
     }
 }
