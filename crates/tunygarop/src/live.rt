@@ -1,15 +1,18 @@
 //! The command `live`: one relay, in one process and one thread, over sockets that never wait.
 
+mod hosting;
 mod making;
 mod watching;
 
 use feed_commands::{Fault, LiveOptions, Verbosity};
 use feed_device::Devices;
 use feed_host::{Failure, lack_of_files};
-use feed_live::{Following, Given, Host, Input, Live, Restored, RunFault, Turn, run};
+use feed_ledger::{NotedLink, NotedSockets};
+use feed_live::{Following, Live, Restored, RunFault, Turn, run};
 use feed_process::{Watched, Words, fault_of_system, report_of};
 use feed_state::{About, StateStore};
 use feed_system::{Port, Servers, System};
+use hosting::Waited;
 use making::{Prepared, prepare};
 use std::alloc::AllocError;
 use std::io;
@@ -30,42 +33,14 @@ struct Engine<'r> {
     about: Option<About>,
     /// Whether there may be more of the input, where that is read at all.
     goes_on: bool,
-    waited: Waited,
 }
 
-/// What came of the last wait.
-#[derive(Clone, Copy)]
-struct Waited {
-    /// The time, in milliseconds since the start.
-    now: u64,
-    /// The same when the wait had ended, in microseconds.
-    began: u64,
-    /// How much was read of the input; nothing where it was not read.
-    read: Option<usize>,
-    /// How many commits were published until then.
-    commits: u64,
-}
-
-impl Waited {
-    /// There was none.
-    fn none() -> Waited {
-        Waited {
-            now: 0,
-            began: 0,
-            read: None,
-            commits: 0,
-        }
-    }
-}
-
-/// What the input has, of which so many bytes were read; nothing where it was not read.
-fn input_of(piece: &[u8], read: Option<usize>) -> Input<'_> {
-    match read {
-        None => Input::Nothing,
-        Some(0) => Input::End,
-        Some(count) => Input::Bytes(piece.get(..count).unwrap_or(piece)),
-    }
-}
+/// The devices of a relay: what goes over its connections is noted, in proofs alone.
+type RelayDevices<'r> = Devices<
+    NotedSockets<Port>,
+    NotedLink<Servers<'r>>,
+    StateStore<&'r HostRuntime>,
+>;
 
 /// How many commits were published since the start.
 fn commits_of(live: &Live) -> u64 {
@@ -82,30 +57,34 @@ impl<'r> Engine<'r> {
     }
 
     /// Waits, and reads the clock, and the input where that may be read.
-    fn wait_so(&mut self, live: &Live, due: u64, takes_input: bool) -> io::Result<()> {
+    fn wait_so(&mut self, live: &Live, due: u64, takes_input: bool) -> io::Result<Waited> {
         let has_input = takes_input && self.system.has_input();
         self.system.wait(if has_input { 0 } else { due })?;
         let began = self.system.microseconds()?;
         self.watched.advance(began / 1_000_000, live.screens_open());
         let now = self.system.now()?;
         let read = self.read_input(takes_input);
-        self.waited = Waited {
+        Ok(Waited {
             now,
             began,
             read,
             commits: commits_of(live),
-        };
-        Ok(())
+        })
+    }
+
+    /// Waits for a turn, and takes of the input what that may take.
+    fn wait(&mut self, live: &Live, turn: Turn) -> io::Result<Waited> {
+        let takes_input = self.goes_on && turn.takes_input;
+        let waited = self.wait_so(live, turn.due, takes_input)?;
+        self.goes_on = self.goes_on && !self.system.has_no_more_input();
+        Ok(waited)
     }
 
     /// A turn is measured where it published something.
-    fn measure(&mut self, live: &Live) -> io::Result<()> {
-        let commits = commits_of(live).saturating_sub(self.waited.commits);
+    fn measure(&mut self, live: &Live, waited: &Waited) -> io::Result<()> {
+        let commits = commits_of(live).saturating_sub(waited.commits);
         if commits > 0 {
-            let time = self
-                .system
-                .microseconds()?
-                .saturating_sub(self.waited.began);
+            let time = self.system.microseconds()?.saturating_sub(waited.began);
             self.watched.add(commits, time);
         }
         Ok(())
@@ -165,28 +144,21 @@ impl<'r> Engine<'r> {
     }
 
     /// What is told of the relay in words.
-    fn words(
-        &self,
-        live: &Live,
-        devices: &Devices<Port, Servers<'r>, StateStore<&'r HostRuntime>>,
-    ) -> Result<Words, AllocError> {
+    fn words(&self, live: &Live, devices: &RelayDevices<'r>) -> Result<Words, AllocError> {
+        let servers = devices.link.link();
         Ok(Words {
-            name: self.followed(live, &devices.link)?,
-            servers: self.servers(live, &devices.link)?,
+            name: self.followed(live, servers)?,
+            servers: self.servers(live, servers)?,
             failure: self.failure(live)?,
             stuck: self.stuck(live)?,
-            first: devices.link.name(self.rt.alloc(), 0)?,
+            first: servers.name(self.rt.alloc(), 0)?,
             lack: self.lack(live)?,
             fault: self.system.file_fault(&devices.store)?,
         })
     }
 
     /// Answers those who watch the relay.
-    fn watch(
-        &mut self,
-        live: &Live,
-        devices: &Devices<Port, Servers<'r>, StateStore<&'r HostRuntime>>,
-    ) -> io::Result<()> {
+    fn watch(&mut self, live: &Live, devices: &RelayDevices<'r>) -> io::Result<()> {
         let now = self.system.now()?;
         if !self.system.is_watched(now) {
             return Ok(());
@@ -197,7 +169,7 @@ impl<'r> Engine<'r> {
             live,
             watched: &self.watched,
             words: &words,
-            refused: self.system.refused(&devices.sockets),
+            refused: self.system.refused(devices.sockets.sockets()),
             now,
         };
         self.system.show(&view, now);
@@ -235,11 +207,8 @@ impl<'r> Engine<'r> {
         }
         Ok(())
     }
-}
 
-impl<'r> Host<Port, Servers<'r>, StateStore<&'r HostRuntime>> for Engine<'r> {
-    type Error = io::Error;
-
+    /// Reports what the relay begins with.
     fn begin(&mut self, restored: &Restored) -> io::Result<()> {
         if let Some(text) = report_of(self.rt.alloc(), self.options, self.about, restored)? {
             self.line(text.as_str());
@@ -250,31 +219,17 @@ impl<'r> Host<Port, Servers<'r>, StateStore<&'r HostRuntime>> for Engine<'r> {
         Ok(())
     }
 
-    fn wait(&mut self, live: &Live, turn: Turn) -> io::Result<()> {
-        let takes_input = self.goes_on && turn.takes_input;
-        self.wait_so(live, turn.due, takes_input)?;
-        self.goes_on = self.goes_on && !self.system.has_no_more_input();
-        Ok(())
-    }
-
-    fn given(&self) -> Given<'_> {
-        Given {
-            events: &self.system.ready,
-            input: input_of(self.system.piece.as_slice(), self.waited.read),
-            now: self.waited.now,
-        }
-    }
-
+    /// Reports what a turn did, and answers those who watch the relay.
     fn report(
         &mut self,
         live: &Live,
-        devices: &Devices<Port, Servers<'r>, StateStore<&'r HostRuntime>>,
+        devices: &RelayDevices<'r>,
+        waited: &Waited,
     ) -> io::Result<()> {
-        self.measure(live)?;
+        self.measure(live, waited)?;
         self.watch(live, devices)?;
         let (reports, missed) = (live.reports(), live.missed());
-        self.system
-            .report(reports, missed, &devices.link, self.options.verbosity);
+        self.system.report(reports, missed, devices.link.link(), self.options.verbosity);
         Ok(())
     }
 }
@@ -286,12 +241,12 @@ pub(crate) fn live_feed<'r>(
 ) -> Result<(), Failure> {
     let Prepared {
         setup,
-        mut engine,
+        mut hosting,
         mut devices,
     } = prepare(rt, options)?;
-    let ended = run(rt.alloc(), setup, &mut engine, &mut devices);
+    let ended = run(rt.alloc(), setup, &mut hosting, &mut devices);
     drop(devices);
-    drop(engine);
+    drop(hosting);
     match ended {
         Ok(()) => Ok(()),
         Err(RunFault::Memory) => Err(Failure::from(Fault::Memory)),

@@ -37,6 +37,8 @@ pub(crate) struct Beginning {
     /// How many bytes of what came it has read ahead, and how many tokens there were.
     ahead: usize,
     tokens: usize,
+    /// Whether the latest of them is one that is held, and isn't ours.
+    is_back: bool,
     /// Whether tokens are positions in what is sent.
     positions: Positions,
     /// What came of a line of the head.
@@ -53,6 +55,7 @@ impl Beginning {
             follows: None,
             ahead: 0,
             tokens: 0,
+            is_back: false,
             positions: Positions::new(alloc),
             field: Vec::new(alloc),
             location: None,
@@ -65,6 +68,7 @@ impl Beginning {
         self.follows = follows;
         self.ahead = 0;
         self.tokens = 0;
+        self.is_back = false;
         self.positions.begin();
         self.field.clear();
         self.location = None;
@@ -127,8 +131,10 @@ impl Beginning {
     }
 
     /// What came afresh is shown at its last token.
-    pub(crate) fn show_alone(&mut self, alloc: Global) {
-        self.positions.show(alloc);
+    pub(crate) fn show(&mut self)
+        ensures { self.new.positions.shown ≡ self.old.positions.came }
+    {
+        self.positions.show();
     }
 
     /// The token of what comes after ours that was sent before that, where there was one.
@@ -142,9 +148,15 @@ impl Beginning {
         self.first.is_some()
     }
 
-    /// This is to be taken, of which some was read ahead. Whether the server ignores our token, or
-    /// its tokens are no positions.
-    pub(crate) fn is_replay(&mut self, alloc: Global, piece: &[u8], shown: &Node) -> bool {
+    /// This is to be taken, of which some was read ahead. Whether the server, which was asked with
+    /// our newest token or with an older one, ignores that, or its tokens are no positions.
+    pub(crate) fn is_replay(
+        &mut self,
+        alloc: Global,
+        piece: &[u8],
+        shown: &Node,
+        asks_newest: bool,
+    ) -> bool {
         if self.follows.is_none() {
             return false;
         }
@@ -154,7 +166,7 @@ impl Beginning {
                 break;
             }
             let (line, next) = line_or_part(rest);
-            if self.takes_back(alloc, line, shown) {
+            if self.takes_back(alloc, line, shown, asks_newest) {
                 return true;
             }
             rest = next;
@@ -166,8 +178,8 @@ impl Beginning {
 
     /// A line of the body comes, or a part of one. Whether the server ignores our token: the body
     /// begins with the first token of all that was sent before, or with all that is shown. Or
-    /// whether a token comes again that was sent before ours.
-    fn takes_back(&mut self, alloc: Global, line: &[u8], shown: &Node) -> bool {
+    /// whether a token comes again that was sent before ours, or a new one comes behind such.
+    fn takes_back(&mut self, alloc: Global, line: &[u8], shown: &Node, asks_newest: bool) -> bool {
         let Some(follows) = &mut self.follows else {
             return false;
         };
@@ -185,12 +197,16 @@ impl Beginning {
         self.tokens = self.tokens.saturating_add(1);
         let is_newest = shown.token().is_some_and(|newest| newest.text() == token);
         let is_all = is_first && !is_newest && begins_again(alloc, &self.first, follows, shown);
-        // A server may begin further back, with commits that are held.
-        let is_replay = is_all || !shown.holds(token) && self.positions.came_before(token);
+        let is_held = shown.holds(token);
+        // A server may begin further back, with commits that are held. Then ours comes again before
+        // any other.
+        let is_behind = self.is_back && asks_newest;
+        let is_over = !is_all && !is_held && self.positions.is_over(token, is_behind);
+        self.is_back = is_held && !is_newest;
         if self.tokens >= LOOKED_AT || !self.positions.has_shown() {
             self.follows = None;
         }
-        is_replay
+        is_all || is_over
     }
 }
 
@@ -304,7 +320,8 @@ impl Source {
             let (line, _) = line_or_part(piece);
             self.beginning.take_head(line);
         }
+        let asks_newest = !self.rechecking.is_going();
         self.beginning
-            .is_replay(alloc, piece, self.answers.shown.node())
+            .is_replay(alloc, piece, self.answers.shown.node(), asks_newest)
     }
 }

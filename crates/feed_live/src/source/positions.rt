@@ -2,6 +2,8 @@
 //! lines may have the tokens of their events, and come in another order. Then what a server sends
 //! after the last of them is over: states that it had long ago.
 
+ghost use Rattle.std.specs.Prelude.{◌≡◌};
+
 use feed_device::Excerpt;
 use std::alloc::Global;
 use std::mem;
@@ -127,19 +129,23 @@ impl Positions {
     }
 
     /// What came afresh is shown at its last token.
-    pub(crate) fn show(&mut self, alloc: Global) {
-        self.shown = mem::replace(&mut self.came, Vec::new(alloc));
+    pub(crate) fn show(&mut self)
+        ensures { self.new.shown ≡ self.old.came }
+    {
+        mem::swap(&mut self.shown, &mut self.came);
+        self.came.clear();
         self.next = 0;
     }
 
-    /// A token of what comes after one that is shown. Whether it came before that.
-    pub(crate) fn came_before(&mut self, token: &str) -> bool {
+    /// A token that isn't held, of what comes after one that is shown. Whether it is over: it came
+    /// before that, or comes behind another one that did.
+    pub(crate) fn is_over(&mut self, token: &str, is_behind: bool) -> bool {
         let sum = sum_of(token);
-        let came = self.shown.iter().any(|shown| *shown == sum);
-        if came {
+        let is_over = is_behind || self.shown.iter().any(|shown| *shown == sum);
+        if is_over {
             self.against = Some(Excerpt::of(token));
         }
-        came
+        is_over
     }
 
     /// Whether something that came afresh was shown at its last token.

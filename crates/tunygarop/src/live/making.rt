@@ -1,13 +1,14 @@
 //! What a relay is set to and runs on, before it begins.
 
-use crate::live::{Engine, Waited};
+use crate::live::hosting::Hosting;
+use crate::live::{Engine, RelayDevices};
 use feed_commands::{LiveOptions, Verbosity};
 use feed_device::Devices;
 use feed_host::Failure;
+use feed_ledger::{NotedLink, NotedSockets};
 use feed_live::{LiveLimits, ScreenLimits, Setup};
 use feed_process::{Made, make};
-use feed_state::StateStore;
-use feed_system::{Port, Resources, Servers};
+use feed_system::Resources;
 
 fn screen_limits_of(options: &LiveOptions<'_>) -> ScreenLimits {
     ScreenLimits {
@@ -40,8 +41,8 @@ fn limits_of(options: &LiveOptions<'_>, are_strange: bool) -> LiveLimits {
 #[derive(Drop)]
 pub(super) struct Prepared<'r> {
     pub(super) setup: Setup,
-    pub(super) engine: Engine<'r>,
-    pub(super) devices: Devices<Port, Servers<'r>, StateStore<&'r HostRuntime>>,
+    pub(super) hosting: Hosting<'r>,
+    pub(super) devices: RelayDevices<'r>,
 }
 
 /// Makes all that a relay runs on, and listens.
@@ -74,11 +75,19 @@ pub(super) fn prepare<'r>(
         watched,
         about,
         goes_on: options.upstream.is_none() || options.until_eof,
-        waited: Waited::none(),
     };
+    let Devices {
+        sockets,
+        link,
+        store,
+    } = devices;
     Ok(Prepared {
         setup,
-        engine,
-        devices,
+        hosting: Hosting::new(engine),
+        devices: Devices {
+            sockets: NotedSockets::new(sockets),
+            link: NotedLink::new(link),
+            store,
+        },
     })
 }

@@ -226,10 +226,13 @@ impl Source {
         ensures shows { IsNowShown self.old self.new }
         ensures times { SameTimes self.old self.new }
         ensures more { self.new.has_more ≡ self.old.has_more }
+        // what came before its token is known
+        ensures tokens { self.new.beginning.positions.shown ≡ self.old.beginning.positions.came }
     {
         if let Some(coming) = self.coming.take() {
             *self.answers.shown.change() = coming;
         }
+        self.beginning.show();
     }
 
     /// What came afresh is shown at its own token alone, and nothing follows.
@@ -241,6 +244,8 @@ impl Source {
         ensures times { SameTimes self.old self.new }
         ensures leading { (self.new.leading ≡ self.old.leading)
             × (self.new.upstream.place ≡ self.old.upstream.place) }
+        ensures tokens { OnOk result
+            (self.new.beginning.positions.shown ≡ self.old.beginning.positions.came) }
     {
         if let Some(coming) = &self.coming {
             let alone = alone(alloc, coming)?;
@@ -248,7 +253,7 @@ impl Source {
         }
         self.coming = None;
         self.settling.was_alone = true;
-        self.beginning.show_alone(alloc);
+        self.beginning.show();
         Ok(())
     }
 

@@ -1,0 +1,4 @@
+pub mod Codes
+pub mod Entries
+pub mod Noted
+pub mod Seen
