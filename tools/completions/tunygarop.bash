@@ -1,4 +1,4 @@
-# Completions of tunygarop for bash.
+# Completions of tunygarop for bash. tools/docs --write makes them.
 
 _tunygarop() {
     local word=${COMP_WORDS[COMP_CWORD]} before=${COMP_WORDS[COMP_CWORD - 1]} command=${COMP_WORDS[1]}
@@ -23,21 +23,15 @@ _tunygarop() {
             mapfile -t COMPREPLY < <(compgen -A hostname -- "$word")
             return
             ;;
-        --state | --user-file | --primary | --screen)
+        --primary | --screen | --user-file | --state)
             compopt -o filenames 2> /dev/null
             mapfile -t COMPREPLY < <(compgen -f -- "$word")
             return
             ;;
-        --history | --back | --staged | --memory | --turns | --turn | --count | --port | --listen | --status)
-            return
-            ;;
-        --contest | --url | --from | --base | --address | --screens | --idle | --window | --pending | --silence | --settle | --return | --hold)
-            return
-            ;;
-        --of | --against | --for)
-            return
-            ;;
-        --at | --host-header | --allow | --per-address | --status-address)
+        --history | --staged | --memory | --at | --of | --against | --contest | --for | --port \
+        | --count | --turn | --back | --from | --base | --host-header | --turns | --silence \
+        | --listen | --url | --settle | --return | --address | --screens | --allow | --per-address \
+        | --idle | --window | --pending | --hold | --status | --status-address)
             return
             ;;
     esac
@@ -48,18 +42,14 @@ _tunygarop() {
     fi
 
     case $command in
-        tables) names="at history staged memory verbose" ;;
+        tables) names="history staged memory at verbose" ;;
         check) names="stream verbose" ;;
         audit) names="primary screen of against contest for json verbose history staged memory" ;;
         play) names="" ;;
         serve) names="port contest count turn chunked back verbose history staged memory" ;;
         pull) names="host port from contest base host-header user-file turns silence resume verbose history staged memory" ;;
-        relay)
-            names="host port from contest base host-header user-file turns silence resume verbose history staged memory listen count chunked"
-            ;;
-        live)
-            names="contest url host port base from host-header user-file settle fresh serve-broken no-recheck return until-eof listen address screens allow per-address idle window pending chunked state new hold serve-old history staged memory status status-address check verbose quiet"
-            ;;
+        relay) names="host port from contest base host-header user-file turns silence resume verbose history staged memory listen count chunked" ;;
+        live) names="contest url host port base from host-header user-file settle fresh serve-broken no-recheck return until-eof listen address screens allow per-address idle window pending chunked state new hold serve-old history staged memory status status-address check verbose quiet" ;;
         help)
             [ "$COMP_CWORD" -eq 2 ] && mapfile -t COMPREPLY < <(compgen -W "$commands" -- "$word")
             return
