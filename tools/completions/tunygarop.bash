@@ -2,7 +2,7 @@
 
 _tunygarop() {
     local word=${COMP_WORDS[COMP_CWORD]} before=${COMP_WORDS[COMP_CWORD - 1]} command=${COMP_WORDS[1]}
-    local commands="tables check audit play serve pull relay live"
+    local commands="tables check audit play serve pull relay probe live"
     local names option given
 
     COMPREPLY=()
@@ -30,8 +30,8 @@ _tunygarop() {
             ;;
         --history | --staged | --memory | --at | --of | --against | --contest | --for | --port \
         | --count | --turn | --back | --from | --base | --host-header | --turns | --silence \
-        | --listen | --url | --settle | --return | --address | --screens | --allow | --per-address \
-        | --idle | --window | --pending | --hold | --status | --status-address)
+        | --listen | --seconds | --url | --settle | --return | --address | --screens | --allow \
+        | --per-address | --idle | --window | --pending | --hold | --status | --status-address)
             return
             ;;
     esac
@@ -49,6 +49,7 @@ _tunygarop() {
         serve) names="port contest count turn chunked back verbose history staged memory" ;;
         pull) names="host port from contest base host-header user-file turns silence resume verbose history staged memory" ;;
         relay) names="host port from contest base host-header user-file turns silence resume verbose history staged memory listen count chunked" ;;
+        probe) names="against user-file host-header seconds json verbose" ;;
         live) names="contest url host port base from host-header user-file settle fresh serve-broken no-recheck return until-eof listen address screens allow per-address idle window pending chunked state new hold serve-old history staged memory status status-address check verbose quiet" ;;
         help)
             [ "$COMP_CWORD" -eq 2 ] && mapfile -t COMPREPLY < <(compgen -W "$commands" -- "$word")

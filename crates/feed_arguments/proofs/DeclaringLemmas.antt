@@ -54,6 +54,7 @@ excludes old new x (same, more) =
 value_is_free : (name : Text) (v : Value) → (value_rule name v).is_free ≡ true
 value_is_free name value.Nothing = refl
 value_is_free name (value.Text word) = refl
+value_is_free name (value.Alone word) = refl
 value_is_free name (value.Number word least most) = refl
 
 default_is_free : (o : Option (Bor (List ℕ))) (r : Rule) → r.is_free ≡ true → (default_rule o r).is_free ≡ true

@@ -5,7 +5,7 @@ use Rattle.clap.specs.Words.{Rule, Text, rule_of}
 use Rattle.clap.specs.declared.builder.arg.Arg.{Arg}
 use Rattle.clap.specs.declared.builder.arg.ArgPredicate.{ArgPredicate}
 use Rattle.clap.specs.declared.builder.arg.ArgPredicate.TheVariants.{IsPresent}
-use Rattle.feed_arguments.specs.Options.{flag, number_between, text_option, tied, with_default}
+use Rattle.feed_arguments.specs.Options.{flag, number_between, text_alone, text_option, tied, with_default}
 use Rattle.feed_arguments.specs.declared.words.declaring.Declared.{Declared}
 use Rattle.feed_arguments.specs.declared.words.declaring.Tie.{Tie}
 use Rattle.feed_arguments.specs.declared.words.declaring.Tie.TheVariants as tie
@@ -16,6 +16,7 @@ use Rattle.feed_arguments.specs.declared.words.declaring.Value.TheVariants as va
 abbrev pub value_rule : Text → Value → Rule
 value_rule name value.Nothing = flag name
 value_rule name (value.Text word) = text_option name
+value_rule name (value.Alone word) = text_alone name
 value_rule name (value.Number word least most) = number_between name least most
 
 -- the option, with this value where it is not given

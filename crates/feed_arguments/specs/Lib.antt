@@ -5,5 +5,6 @@ pub mod Listening
 pub mod Live
 pub mod Networks
 pub mod Options
+pub mod Probe
 pub mod Upstream
 pub mod Words

@@ -40,6 +40,10 @@ number_in name most = number_between name 1 most
 abbrev pub text_option : Text → Rule
 text_option name = record (new_rule name) { long = Some name; value_names = 1 }
 
+-- a text that stands without the option's name
+abbrev pub text_alone : Text → Rule
+text_alone name = record (new_rule name) { value_names = 1 }
+
 -- an option without a value
 abbrev pub flag : Text → Rule
 flag name = record (new_rule name) { long = Some name; action = Some SetTrue }

@@ -9,6 +9,7 @@ use Rattle.feed_arguments.specs.Addresses.{most_port}
 use Rattle.feed_arguments.specs.Live.{live, AsksLive}
 use Rattle.feed_arguments.specs.Options.{most_rounds, most_silence, at, stream, verbose, primary, screen, of, against, compared_contest, for_seconds, json, port, listen, contest, count, turn, chunked, back, host, from, base, host_header, user_file, reads, silence, resume, limits, with_rules}
 use Rattle.feed_arguments.specs.Options.{text_at, SaysNumber, IsNumberUpTo, IsNumberIfGiven, IsGiven, IsFramed, AsksLimits}
+use Rattle.feed_arguments.specs.Probe.{probe, AsksProbe}
 use Rattle.feed_arguments.specs.Upstream.{AsksUpstream}
 use Rattle.feed_arguments.specs.declared.request.Local.TheVariants as local
 use Rattle.clap.specs.declared.error.kind.ErrorKind.{ErrorKind}
@@ -94,8 +95,12 @@ abbrev pub program_for_trying : App
 program_for_trying =
     with_subcommand (with_subcommand (with_subcommand local_program serve.top) pull.top) relay.top
 
+-- the program, with the command that looks at a server
+abbrev pub program_for_looking : App
+program_for_looking = with_subcommand program_for_trying probe.top
+
 abbrev pub command_line : App
-command_line = with_subcommand program_for_trying live.top
+command_line = with_subcommand program_for_looking live.top
 
 -- ---- what words ask for
 
@@ -186,6 +191,7 @@ AsksBy name rows (request.Local (local.Check options)) =
 AsksBy name rows (request.Local local.Play) = name ≡ codes "play"
 AsksBy name rows (request.Audit options) = (name ≡ codes "audit") × AsksAudit rows options
 AsksBy name rows (request.Compare options) = (name ≡ codes "audit") × AsksCompare rows options
+AsksBy name rows (request.Probe options) = (name ≡ codes "probe") × AsksProbe rows options
 AsksBy name rows (request.Serve options) = (name ≡ codes "serve") × AsksServe rows options
 AsksBy name rows (request.Pull options) = (name ≡ codes "pull") × AsksPull rows options
 AsksBy name rows (request.Relay options) = (name ≡ codes "relay") × AsksRelay rows options

@@ -57,6 +57,25 @@ pub struct CompareOptions<'a> {
     pub limits: Limits,
 }
 
+/// Which server `probe` looks at, for how long, and how it prints what it found.
+#[derive(Clone, Copy)]
+pub struct ProbeOptions<'a> {
+    /// The URL of the feed. Any text will do.
+    pub url: &'a str,
+    /// The URL of a second server, which is compared with the first. Any text will do.
+    pub against: Option<&'a str>,
+    /// The name of the file with the user's name and password. Any text will do.
+    pub user_file: Option<&'a str>,
+    /// What requests call the server, where that is not its host. Any text will do.
+    pub host_header: Option<&'a str>,
+    /// For how many seconds the feed is read, 1 to 600.
+    pub seconds: u64,
+    /// Whether what was found is printed as JSON.
+    pub json: bool,
+    /// Whether each connection is reported.
+    pub verbose: bool,
+}
+
 /// What `serve` serves, where, and to how many.
 #[derive(Clone, Copy)]
 pub struct ServeOptions<'a> {
@@ -237,6 +256,8 @@ pub enum Request<'a> {
     Audit(AuditOptions<'a>),
     /// Whether two servers have the same state at each token that both have.
     Compare(CompareOptions<'a>),
+    /// What a server is, what that means for screens, and which call of `live` it takes.
+    Probe(ProbeOptions<'a>),
     /// The feed on standard input, served by a primary.
     Serve(ServeOptions<'a>),
     /// The snapshot of what a server's feed publishes to a mirror.

@@ -11,6 +11,7 @@ mod followed;
 mod line;
 mod live;
 mod options;
+mod probe;
 mod refusing;
 
 use crate::request::{NoCommand, Request};

@@ -9,7 +9,7 @@ ghost use Rattle.feed_http.specs.Exchange.{wrote_by};
 
 pub mod audit;
 mod check;
-mod findings;
+pub mod findings;
 mod play;
 pub mod pull;
 pub mod relay;

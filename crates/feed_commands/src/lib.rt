@@ -14,6 +14,7 @@ mod reporting;
 mod snapshot;
 
 pub use commands::audit::{print_verdict, read_record};
+pub use commands::findings::{Finding, Findings, find_all};
 pub use commands::pull::{Pull, print_pulled, pull_outcome, servers_of, start_mirror};
 pub use commands::relay::{Network, Relay, print_relayed};
 pub use commands::serve::{FedPrimary, serve_all, start_primary};
@@ -22,7 +23,7 @@ pub use device_lines::{DeviceLines, STREAMED_BYTES};
 pub use fault::{Fault, FeedStop, REFUSED, SurveyStop};
 pub use feed_arguments::{
     AddressFault, AuditOptions, CompareOptions, Listed, ListedFault, LiveOptions, Local,
-    MOST_ADDRESSES, NoCommand, PROGRAM, PullOptions, RelayOptions, Request, ServeOptions,
+    MOST_ADDRESSES, NoCommand, PROGRAM, ProbeOptions, PullOptions, RelayOptions, Request, ServeOptions,
     TablesOptions, UpstreamOptions, VERSION, Verbosity, addresses, parse_words, server_listed,
 };
 pub use feed_audit::AuditFault;

@@ -4,12 +4,14 @@
 
 mod checking;
 mod making;
+mod probing;
 mod restoring;
 mod servers;
 mod watching;
 
 pub use checking::check;
 pub use making::{Made, fault_of_system, make};
+pub use probing::probe;
 pub use restoring::report_of;
 pub use watching::{
     Standing, Watched, Words, file_of, screen_of, screens_of, server_of, upstream_of,

@@ -9,7 +9,7 @@ use feed_compare::compare_servers;
 use feed_host::{
     Errors, Failure, audit_records, ended, input_ahead, pull_feed, relay_feed, serve_feed,
 };
-use feed_process::check;
+use feed_process::{check, probe};
 use feed_system::hold_standard;
 use live::live_feed;
 use std::io::ErrorKind;
@@ -51,6 +51,7 @@ fn run_request<'a>(rt: &HostRuntime, request: &Request<'_>, words: &'a [&'a str]
         Request::Local(request) => run_words(rt, request.name(), words),
         Request::Audit(options) => end(rt, "audit", audit_records(rt, options)),
         Request::Compare(options) => end(rt, "audit", compare_servers(rt, options)),
+        Request::Probe(options) => probe(rt, options),
         Request::Serve(options) => end(rt, "serve", serve_feed(rt, options)),
         Request::Pull(options) => end(rt, "pull", pull_feed(rt, options)),
         Request::Relay(options) => end(rt, "relay", relay_feed(rt, options)),

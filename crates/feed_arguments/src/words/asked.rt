@@ -22,6 +22,7 @@ ghost use Rattle.feed_arguments.specs.declared.request.UpstreamOptions.{Upstream
 use super::asked_live::live_options;
 use super::live::KEPT_BYTES;
 use super::options::{MOST_PORT, MOST_ROUNDS, MOST_SILENCE};
+use super::probe::probe_options;
 use crate::request::{
     AuditOptions, CheckOptions, CompareOptions, Local, PullOptions, RelayOptions, Request,
     ServeOptions, TablesOptions, UpstreamOptions,
@@ -400,6 +401,10 @@ fn request_named<'a>(name: &str, matches: &ArgMatches<'a>) -> Option<Request<'a>
         "check" => Some(Request::Local(Local::Check(check_options(matches)))),
         "play" => Some(Request::Local(Local::Play)),
         "audit" => audit_asked(matches),
+        "probe" => match probe_options(matches) {
+            Some(options) => Some(Request::Probe(options)),
+            None => None,
+        },
         "serve" => match serve_options(matches) {
             Some(options) => Some(Request::Serve(options)),
             None => None,

@@ -19,6 +19,8 @@ pub(super) enum Value {
     Nothing,
     /// Any text.
     Text(&'static str),
+    /// Any text, which stands without the name.
+    Alone(&'static str),
     /// A number, from the least to the most.
     Number(&'static str, u64, u64),
 }
@@ -109,11 +111,13 @@ fn valued(alloc: Global, name: &'static str, value: Value) -> Arg<'static>
     ensures rule { rule_of result ≡ value_rule name.entry.now value }
     ensures local { result.global ≡ false }
 {
-    let option = Arg::new(alloc, name).long(name);
+    let option = Arg::new(alloc, name);
     match value {
-        Value::Nothing => option.action(ArgAction::SetTrue),
-        Value::Text(value) => option.value_name(value),
+        Value::Nothing => option.long(name).action(ArgAction::SetTrue),
+        Value::Text(value) => option.long(name).value_name(value),
+        Value::Alone(value) => option.value_name(value),
         Value::Number(value, least, most) => option
+            .long(name)
             .value_name(value)
             .value_parser(ValueParser::unsigned(least, most)),
     }

@@ -11,6 +11,7 @@ use super::options::{
     BASE, CHUNKED, CONTEST, COUNT, FROM, HISTORY, HOST_HEADER, MEMORY, MOST_PORT, MOST_ROUNDS,
     MOST_SILENCE, PORT, STAGED, USER_FILE, VERBOSE,
 };
+use super::probe::probe;
 use super::{PROGRAM, VERSION};
 use clap::Command;
 use feed_settings::MOST_COMMITS;
@@ -329,9 +330,16 @@ fn program_for_trying<'a>(alloc: Global) -> Result<Command<'a>, AllocError>
     with_command(program, relay(alloc))
 }
 
+/// The program, with the command that looks at a server.
+fn program_for_looking<'a>(alloc: Global) -> Result<Command<'a>, AllocError>
+    ensures { IfOk result (λ c. app_of c ≡ words.program_for_looking) }
+{
+    with_command(program_for_trying(alloc), probe(alloc))
+}
+
 /// The command line.
 pub(super) fn command_line<'a>(alloc: Global) -> Result<Command<'a>, AllocError>
     ensures { IfOk result (λ c. app_of c ≡ words.command_line) }
 {
-    with_command(program_for_trying(alloc), live(alloc))
+    with_command(program_for_looking(alloc), live(alloc))
 }

@@ -13,7 +13,7 @@ use std::collections::BTreeSet;
 
 /// On how many lines of a feed something is so.
 #[derive(Clone, Copy)]
-pub(super) struct Finding {
+pub struct Finding {
     /// How many lines these are.
     pub count: u64,
     /// The first of them, counted from 1.
@@ -48,7 +48,7 @@ impl Finding {
 
 /// What is found on the lines of a feed.
 #[derive(Clone, Copy)]
-pub(super) struct Findings {
+pub struct Findings {
     /// The line has a token that stood on a line before.
     pub repeats: Finding,
     /// No line up to this notification has a token.
@@ -244,7 +244,7 @@ impl Reader {
 
 /// Finds what servers of the field get wrong on the lines of a feed, or names the first line that
 /// can't be read. Takes memory by the length of the tokens.
-pub(super) fn find_all(alloc: Global, bytes: &[u8]) -> Result<Findings, SurveyFault>
+pub fn find_all(alloc: Global, bytes: &[u8]) -> Result<Findings, SurveyFault>
     ensures ok { IfOk result (λ findings. AreFound bytes.now findings) }
     ensures err { IfErr result (λ fault.
         fault.stop ≢ LineStop.Memory → StopsAt bytes.now fault.line fault.stop) }

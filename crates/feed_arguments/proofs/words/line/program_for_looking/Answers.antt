@@ -1,0 +1,6 @@
+use Rattle.std.proofs.Common.{refl}
+use Rattle.feed_arguments.proofs.words.line.program_for_looking.Goals as goal
+
+pub returns : goal.returns
+returns c =
+    c.with_command.ensures _ _ c.program_for_trying.ensures c.probe.ensures refl
