@@ -23,8 +23,9 @@ pub use device_lines::{DeviceLines, STREAMED_BYTES};
 pub use fault::{Fault, FeedStop, REFUSED, SurveyStop};
 pub use feed_arguments::{
     AddressFault, AuditOptions, CompareOptions, Listed, ListedFault, LiveOptions, Local,
-    MOST_ADDRESSES, NoCommand, PROGRAM, ProbeOptions, PullOptions, RelayOptions, Request, ServeOptions,
-    TablesOptions, UpstreamOptions, VERSION, Verbosity, addresses, parse_words, server_listed,
+    MOST_ADDRESSES, NoCommand, PROGRAM, ProbeOptions, PullOptions, RelayOptions, Request,
+    ServeOptions, TablesOptions, UpstreamOptions, VERSION, Verbosity, addresses, parse_words,
+    server_listed,
 };
 pub use feed_audit::AuditFault;
 pub use feed_http::{device, memory, stream};

@@ -111,9 +111,7 @@ fn head_of(
         coding: String::new(alloc),
     };
     for header in headers {
-        let name = text
-            .get(header.name.start..header.name.end)
-            .unwrap_or(&[]);
+        let name = text.get(header.name.start..header.name.end).unwrap_or(&[]);
         let value = value_of(alloc, text, header)?;
         head.framing = with_field(head.framing, name, value.as_bytes());
         if name.eq_ignore_ascii_case(b"location") {

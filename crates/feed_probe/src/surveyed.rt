@@ -50,11 +50,7 @@ fn read_lines(alloc: Global, text: &[u8]) -> Result<(Counts, Findings), SurveyFa
 }
 
 /// What the lines of a record are before the one that can't be read.
-fn survey_before(
-    alloc: Global,
-    text: &[u8],
-    fault: SurveyFault,
-) -> Result<Surveyed, AllocError>
+fn survey_before(alloc: Global, text: &[u8], fault: SurveyFault) -> Result<Surveyed, AllocError>
     requires { StopsAt text.now fault.line fault.stop }
     ensures { IfOk result (λ surveyed. IsSurveyed text.now surveyed) }
 {

@@ -15,9 +15,7 @@ use feed_arguments::{FeedUrl, ProbeOptions, UpstreamOptions, UrlFault, feed_url}
 use feed_commands::{Fault, Server, servers_of};
 use feed_host::{Errors, Failure, ended, identity_of};
 use feed_probe::{Call, CallFault, call_of, survey_of};
-use judging::{
-    Feed, mirrored, see_format, see_quiet, see_settle, see_size, see_start, see_tokens,
-};
+use judging::{Feed, mirrored, see_format, see_quiet, see_settle, see_size, see_start, see_tokens};
 use passage::{Passage, Patience, ask, tell_passage};
 use reaching::{see_http, see_reached};
 use report::Report;

@@ -6,7 +6,8 @@ use super::passage::{Passage, Patience, ask, tell_passage};
 use super::report::Report;
 use feed_commands::Server;
 use feed_probe::{
-    Answer, Asked, Behaviour, Marked, behaviour_of, marked, put_notes, unheld_token, wants_fresh,
+    Answer, Asked, Behaviour, TokenEnd, behaviour_of, put_notes, token_end, unheld_token,
+    wants_fresh,
 };
 use std::alloc::{AllocError, Global};
 
@@ -17,7 +18,8 @@ const SHORT: Patience = Patience {
     next: 1_000,
 };
 
-const ASKS_FRESH: &str = "a relay that comes back with a token would lack what came, or show states \
+const ASKS_FRESH: &str =
+    "a relay that comes back with a token would lack what came, or show states \
                           that are over: give --fresh, so that each connection asks for everything";
 
 const REFUSES_NEWEST: &str = "it doesn't take its own token: each new connection asks for \
@@ -63,7 +65,8 @@ fn words_of(answer: Answer) -> &'static str {
         Answer::Sent(Behaviour::GoesOn) => "it goes on after it",
         Answer::Sent(Behaviour::BeginsAgain) => "it begins again with its first line",
         Answer::Sent(Behaviour::SendsAgain) => "it begins with an earlier line, and goes on",
-        Answer::Sent(Behaviour::LeavesOut) => "it leaves out lines that its feed from the start has",
+        Answer::Sent(Behaviour::LeavesOut) =>
+            "it leaves out lines that its feed from the start has",
         Answer::Sent(Behaviour::Differs) => "it sends other lines than its feed from the start",
     }
 }
@@ -79,7 +82,7 @@ fn push_marked(
     let Some(number) = number else {
         return Ok(());
     };
-    if let Some(Marked { token, end }) = marked(alloc, notes, number)? {
+    if let Some(TokenEnd { token, end }) = token_end(alloc, notes, number)? {
         questions.push(Question { asked, token, end })?;
     }
     Ok(())
@@ -90,8 +93,20 @@ fn questions_of(alloc: Global, notes: &[u8], tokens: u64) -> Result<Vec<Question
     let mut questions = Vec::new(alloc);
     let middle = if tokens > 2 { Some(tokens / 2) } else { None };
     push_marked(alloc, notes, Asked::Middle, middle, &mut questions)?;
-    push_marked(alloc, notes, Asked::Before, tokens.checked_sub(2), &mut questions)?;
-    push_marked(alloc, notes, Asked::Newest, tokens.checked_sub(1), &mut questions)?;
+    push_marked(
+        alloc,
+        notes,
+        Asked::Before,
+        tokens.checked_sub(2),
+        &mut questions,
+    )?;
+    push_marked(
+        alloc,
+        notes,
+        Asked::Newest,
+        tokens.checked_sub(1),
+        &mut questions,
+    )?;
     let Some(newest) = questions.as_slice().last() else {
         return Ok(questions);
     };
@@ -123,11 +138,7 @@ fn answer_of(
 }
 
 /// Tells what is answered to a token.
-fn tell(
-    report: &mut Report,
-    question: &Question,
-    answer: Answer,
-) -> Result<(), AllocError> {
+fn tell(report: &mut Report, question: &Question, answer: Answer) -> Result<(), AllocError> {
     let alloc = report.alloc();
     let (topic, name) = name_of(question.asked);
     let (token, words) = (question.token.as_str(), words_of(answer));
@@ -139,7 +150,11 @@ fn tell(
     };
     if wants_fresh(question.asked, answer) {
         report.needs.is_fresh = true;
-        let means = if answer == Answer::Refused { REFUSES_NEWEST } else { ASKS_FRESH };
+        let means = if answer == Answer::Refused {
+            REFUSES_NEWEST
+        } else {
+            ASKS_FRESH
+        };
         return report.note(topic, text, means);
     }
     match (question.asked, answer) {

@@ -6,7 +6,8 @@ use super::report::{Report, UNFIT};
 use feed_node::Mirror;
 use std::alloc::{AllocError, Global};
 
-const ANOTHER_LOG: &str = "with --fresh one relay may name both: each connection asks for everything \
+const ANOTHER_LOG: &str =
+    "with --fresh one relay may name both: each connection asks for everything \
                            then, and screens go on if the state is the same";
 
 const ANOTHER_CONTEST: &str = "a relay serves one contest, so the call below doesn't name it";
@@ -34,7 +35,11 @@ fn at_token(alloc: Global, text: &[u8], shown: &Mirror) -> Result<Common, AllocE
         if mirror.feed(alloc, line).is_err() {
             break;
         }
-        if mirror.node().token().is_none_or(|now| now.text() != token.text()) {
+        if mirror
+            .node()
+            .token()
+            .is_none_or(|now| now.text() != token.text())
+        {
             continue;
         }
         let token = String::from_str(alloc, token.text())?;
@@ -47,7 +52,7 @@ fn at_token(alloc: Global, text: &[u8], shown: &Mirror) -> Result<Common, AllocE
 }
 
 /// What two feeds have in common: at the newest token of the second one, and else of the first.
-fn common(alloc: Global, first: &[u8], second: &[u8]) -> Result<Common, AllocError> {
+fn common_of(alloc: Global, first: &[u8], second: &[u8]) -> Result<Common, AllocError> {
     let (newest, _) = mirrored(alloc, second)?;
     match at_token(alloc, first, &newest)? {
         Common::Nothing => {}
@@ -76,7 +81,7 @@ pub(super) fn see_against(
         report.note("against", text, ANOTHER_CONTEST)?;
         return Ok(false);
     }
-    let text = match common(alloc, first, second)? {
+    let text = match common_of(alloc, first, second)? {
         Common::Same(token) => {
             let token = token.as_str();
             let text = format!(in alloc; "both have the same state at token {token:?}")?;

@@ -4,9 +4,7 @@
 use super::passage::{End, Passage};
 use super::report::{Report, UNFIT, UNSEEN, printable, seconds};
 use feed_node::{Limits, MOST_CHANGES, MOST_COMMITS, Mirror};
-use feed_probe::{
-    Finding, Needs, Surveyed, USUAL_PAUSE, longest_pause, pause_for, shown_after,
-};
+use feed_probe::{Finding, Needs, Surveyed, USUAL_PAUSE, longest_pause, pause_for, shown_after};
 use feed_tables::Tables;
 use std::alloc::{AllocError, Global};
 
@@ -40,13 +38,15 @@ const SAME_AGAIN: &str = "what comes with it again says the same, so screens lac
 
 const LONGER: &str = "with the usual pause screens would be shown a part of it";
 
-const SHORTER: &str = "it never pauses for 2 s, so with the usual pause screens would get 503 until \
+const SHORTER: &str =
+    "it never pauses for 2 s, so with the usual pause screens would get 503 until \
                        it does, for 10 minutes at most";
 
 const NO_REST: &str = "screens get 503 until it comes to rest, for 10 minutes at most: probe for \
                        longer, with --seconds 130";
 
-const IS_CUT: &str = "something cuts quiet connections, or ends them after a time: raise that limit \
+const IS_CUT: &str =
+    "something cuts quiet connections, or ends them after a time: raise that limit \
                       (nginx: proxy_read_timeout; PHP: max_execution_time; a load balancer). A feed \
                       that isn't whole by then is never shown";
 
@@ -113,7 +113,11 @@ pub(super) fn see_format(report: &mut Report, feed: Feed<'_>) -> Result<(), Allo
         report.fine("format", text)?;
     }
     if findings.misnamed.count > 0 {
-        let text = many(alloc, findings.misnamed, "lines under another id than the object's")?;
+        let text = many(
+            alloc,
+            findings.misnamed,
+            "lines under another id than the object's",
+        )?;
         return report.note("ids", text, MISNAMED);
     }
     if notes > 0 {
@@ -223,7 +227,11 @@ fn settled(report: &mut Report, feed: Feed<'_>, pause: u64) -> Result<(), AllocE
     }
     report.needs.settle = Needs::pausing(pause, false).settle;
     let text = format!(in alloc; "{text}: give --settle {pause}")?;
-    report.note("settle", text, if pause < USUAL_PAUSE { SHORTER } else { LONGER })
+    report.note(
+        "settle",
+        text,
+        if pause < USUAL_PAUSE { SHORTER } else { LONGER },
+    )
 }
 
 /// Looks when a relay shows what came.

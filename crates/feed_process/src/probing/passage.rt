@@ -137,7 +137,11 @@ impl Passage {
         let passed = now.saturating_sub(answered);
         let still = now.saturating_sub(self.heard);
         let has_lines = !self.record.times().is_empty();
-        let pause = if has_lines { patience.next } else { patience.first };
+        let pause = if has_lines {
+            patience.next
+        } else {
+            patience.first
+        };
         self.response.is_broken()
             || self.record.is_full()
             || passed >= patience.whole

@@ -32,7 +32,8 @@ const NOTHING_YET: &str = "it has nothing to show yet, or is overloaded: live wa
 
 const FAILS: &str = "the server fails, or a proxy before it: look at their logs";
 
-const CODED: &str = "live leaves it (bad coding): switch compression off for this path, in proxies, \
+const CODED: &str =
+    "live leaves it (bad coding): switch compression off for this path, in proxies, \
                      too";
 
 const STRANGE: &str = "live reads no other framing than chunks, one length, or the end of the \

@@ -177,7 +177,17 @@ impl Report {
     /// Appends the report as lines, with the call at its end where there is one.
     pub(super) fn put_lines(&self, call: &[String], out: &mut String) -> Result<(), AllocError> {
         for line in &self.lines {
-            put(&[line.level.word(), " ", line.topic, ": ", line.text.as_str(), "\n"], out)?;
+            put(
+                &[
+                    line.level.word(),
+                    " ",
+                    line.topic,
+                    ": ",
+                    line.text.as_str(),
+                    "\n",
+                ],
+                out,
+            )?;
             if !line.means.is_empty() {
                 put(&["    ", line.means, "\n"], out)?;
             }
@@ -261,7 +271,11 @@ fn put(texts: &[&str], out: &mut String) -> Result<(), AllocError> {
 pub(super) fn printable(alloc: Global, text: &[u8], most: usize) -> Result<String, AllocError> {
     let mut shown = String::new(alloc);
     for byte in text.iter().take(most) {
-        let letter = if (b' '..=b'~').contains(byte) { *byte } else { b'?' };
+        let letter = if (b' '..=b'~').contains(byte) {
+            *byte
+        } else {
+            b'?'
+        };
         shown.push(char::from(letter))?;
     }
     if text.len() > most {

@@ -6,7 +6,7 @@ use std::alloc::{AllocError, Global};
 
 /// A token, and how many bytes of the feed there are up to the end of its line.
 #[derive(Drop)]
-pub struct Marked {
+pub struct TokenEnd {
     pub token: String,
     pub end: usize,
 }
@@ -14,10 +14,10 @@ pub struct Marked {
 /// The token of a line; none where it has none, or can't be read.
 fn token_of(alloc: Global, line: &[u8]) -> Result<Option<String>, AllocError> {
     match read_line(alloc, line) {
-        Ok(Line::Note {
-            token: Some(token),
-            ..
-        }) => Ok(Some(String::from_str(alloc, token.text())?)),
+        Ok(Line::Note { changes: _, token }) => match token {
+            Some(token) => Ok(Some(String::from_str(alloc, token.text())?)),
+            None => Ok(None),
+        },
         Err(LineFault::Memory) => Err(AllocError),
         _ => Ok(None),
     }
@@ -25,7 +25,7 @@ fn token_of(alloc: Global, line: &[u8]) -> Result<Option<String>, AllocError> {
 
 /// The token on the line of this number among those that have one, counted from 0; none where there
 /// are fewer.
-pub fn marked(alloc: Global, text: &[u8], number: u64) -> Result<Option<Marked>, AllocError>
+pub fn token_end(alloc: Global, text: &[u8], number: u64) -> Result<Option<TokenEnd>, AllocError>
     ensures { IfOk result (λ found. IfSome found (λ m. m.end ≤ length text.now)) }
 {
     let mut rest = text;
@@ -36,7 +36,7 @@ pub fn marked(alloc: Global, text: &[u8], number: u64) -> Result<Option<Marked>,
             continue;
         };
         if passed == number {
-            return Ok(Some(Marked {
+            return Ok(Some(TokenEnd {
                 token,
                 end: text.len() - rest.len(),
             }));
