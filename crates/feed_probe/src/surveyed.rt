@@ -30,7 +30,9 @@ fn start_of(text: &[u8], number: u64) -> Option<usize>
     let mut rest = text;
     let mut at: u64 = 1;
     'lines: while at < number {
-        let (_, behind) = split_line(rest)?;
+        let Some((_, behind)) = split_line(rest) else {
+            return None;
+        };
         rest = behind;
         at += 1;
     }

@@ -82,7 +82,8 @@ fn push_marked(
     let Some(number) = number else {
         return Ok(());
     };
-    if let Some(TokenEnd { token, end }) = token_end(alloc, notes, number)? {
+    if let Some(found) = token_end(alloc, notes, number)? {
+        let TokenEnd { token, end } = found;
         questions.push(Question { asked, token, end })?;
     }
     Ok(())

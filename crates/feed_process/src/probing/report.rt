@@ -58,17 +58,21 @@ struct Line {
 pub(super) struct Report {
     alloc: Global,
     lines: Vec<Line>,
-    // The status of the worst finding: first that there was no connection, then that it doesn't
-    // fit, then that something was not seen.
+    // The status of the worst finding.
     worst: u8,
     pub(super) needs: Needs,
 }
 
-/// Whether one status says more than another.
-fn is_worse(status: u8, than: u8) -> bool {
-    let order = [FITS, FITS_SO, UNSEEN, UNFIT, UNREACHED];
-    let place = |status: u8| order.iter().position(|other| *other == status);
-    place(status) > place(than)
+/// How much a status says: that there was no connection more than that it doesn't fit, and that
+/// more than that something was not seen.
+fn weight_of(status: u8) -> u8 {
+    match status {
+        FITS => 0,
+        FITS_SO => 1,
+        UNSEEN => 2,
+        UNFIT => 3,
+        _ => 4,
+    }
 }
 
 impl Report {
@@ -144,7 +148,7 @@ impl Report {
     }
 
     fn worsen(&mut self, status: u8) {
-        if is_worse(status, self.worst) {
+        if weight_of(status) > weight_of(self.worst) {
             self.worst = status;
         }
     }
