@@ -6,5 +6,6 @@ pub mod Live
 pub mod Networks
 pub mod Options
 pub mod Probe
+pub mod Recording
 pub mod Upstream
 pub mod Words

@@ -10,6 +10,7 @@ use Rattle.feed_arguments.specs.Live.{live, AsksLive}
 use Rattle.feed_arguments.specs.Options.{most_rounds, most_silence, at, stream, verbose, primary, screen, of, against, compared_contest, for_seconds, json, port, listen, contest, count, turn, chunked, back, host, from, base, host_header, user_file, reads, silence, resume, limits, with_rules}
 use Rattle.feed_arguments.specs.Options.{text_at, SaysNumber, IsNumberUpTo, IsNumberIfGiven, IsGiven, IsFramed, AsksLimits}
 use Rattle.feed_arguments.specs.Probe.{probe, AsksProbe}
+use Rattle.feed_arguments.specs.Recording.{at_time, times, record_command, replay_command, AsksAtTime, AsksNoTime, AsksRecord, AsksReplay}
 use Rattle.feed_arguments.specs.Upstream.{AsksUpstream}
 use Rattle.feed_arguments.specs.declared.request.Local.TheVariants as local
 use Rattle.clap.specs.declared.error.kind.ErrorKind.{ErrorKind}
@@ -55,7 +56,8 @@ abbrev pub compared : List Rule
 compared = of ∷ against ∷ compared_contest ∷ for_seconds ∷ []
 
 abbrev pub tables : App
-tables = with_rules (with_rules (new_app (codes "tables")) limits) (at ∷ verbose ∷ [])
+tables =
+    with_rules (with_rules (new_app (codes "tables")) limits) (at ∷ at_time ∷ times ∷ verbose ∷ [])
 
 abbrev pub check : App
 check = with_rules (new_app (codes "check")) (stream ∷ verbose ∷ [])
@@ -99,13 +101,19 @@ program_for_trying =
 abbrev pub program_for_looking : App
 program_for_looking = with_subcommand program_for_trying probe.top
 
+-- the program, with those and the commands for records
+abbrev pub program_for_records : App
+program_for_records =
+    with_subcommand (with_subcommand program_for_looking record_command.top) replay_command.top
+
 abbrev pub command_line : App
-command_line = with_subcommand program_for_looking live.top
+command_line = with_subcommand program_for_records live.top
 
 -- ---- what words ask for
 
 -- the values of the options of `tables`
 pub record AsksTables (rows : List Row) (options : TablesOptions) : Type 0 where
+  pub untimed : AsksNoTime rows
   pub at_is : text_at (codes "at") rows ≡ option_map (λ text. text.now) options.at
   pub limits_are : AsksLimits rows options.limits
   pub verbose_is : IsGiven (codes "verbose") rows options.verbose
@@ -195,6 +203,9 @@ AsksBy name rows (request.Probe options) = (name ≡ codes "probe") × AsksProbe
 AsksBy name rows (request.Serve options) = (name ≡ codes "serve") × AsksServe rows options
 AsksBy name rows (request.Pull options) = (name ≡ codes "pull") × AsksPull rows options
 AsksBy name rows (request.Relay options) = (name ≡ codes "relay") × AsksRelay rows options
+AsksBy name rows (request.AtTime options) = (name ≡ codes "tables") × AsksAtTime rows options
+AsksBy name rows (request.Record options) = (name ≡ codes "record") × AsksRecord rows options
+AsksBy name rows (request.Replay options) = (name ≡ codes "replay") × AsksReplay rows options
 AsksBy name rows (request.Live options) = (name ≡ codes "live") × AsksLive rows options
 
 -- the command that was entered asks for this

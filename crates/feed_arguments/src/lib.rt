@@ -11,8 +11,9 @@ mod words;
 pub use address::{AddressFault, MOST_ADDRESSES, addresses};
 pub use network::{Network, Origin, is_in_any, networks};
 pub use request::{
-    AuditOptions, CheckOptions, CompareOptions, LiveOptions, Local, NoCommand, ProbeOptions,
-    PullOptions, RelayOptions, Request, ServeOptions, TablesOptions, UpstreamOptions, Verbosity,
+    AtTimeOptions, AuditOptions, CheckOptions, CompareOptions, LiveOptions, Local, NoCommand,
+    ProbeOptions, PullOptions, RecordOptions, RelayOptions, ReplayOptions, Request, ServeOptions,
+    TablesOptions, UpstreamOptions, Verbosity,
 };
 pub use url::{FeedUrl, Listed, ListedFault, UrlFault, feed_url, server_listed};
 pub use words::{PROGRAM, VERSION, parse_words};

@@ -13,6 +13,19 @@ pub struct TablesOptions<'a> {
     pub verbose: bool,
 }
 
+/// Which state `tables` prints where a time is given, and how it feeds its mirror.
+#[derive(Clone, Copy)]
+pub struct AtTimeOptions<'a> {
+    /// The time, as RFC 3339 has it. Any text will do.
+    pub time: &'a str,
+    /// The name of the file with the times at which tokens came. Any text will do.
+    pub times: &'a str,
+    /// The mirror's limits.
+    pub limits: Limits,
+    /// Whether a fault of the feed is told with the number of its line.
+    pub verbose: bool,
+}
+
 /// How `check` reads a feed, and what it tells.
 #[derive(Clone, Copy)]
 pub struct CheckOptions {
@@ -148,6 +161,45 @@ pub struct RelayOptions<'a> {
     pub framing: Framing,
 }
 
+/// What `record` follows, and where it keeps that.
+#[derive(Clone, Copy)]
+pub struct RecordOptions<'a> {
+    /// The server that is asked.
+    pub upstream: UpstreamOptions<'a>,
+    /// The contest whose feed is recorded.
+    pub contest: &'a str,
+    /// The name of the file that is written. Any text will do.
+    pub file: &'a str,
+    /// Whether a connection asks for what comes after the newest token, and not for the newest
+    /// commit again.
+    pub no_recheck: bool,
+    /// Whether each connection is reported.
+    pub verbose: bool,
+}
+
+/// What `replay` serves, how fast, and where.
+#[derive(Clone, Copy)]
+pub struct ReplayOptions<'a> {
+    /// The name of the file with the feed. Any text will do.
+    pub file: &'a str,
+    /// The name of the file with the times at which its tokens came; without it the times count
+    /// that its objects name. Any text will do.
+    pub times: Option<&'a str>,
+    /// How many times as fast as it happened, 1 to 1,000,000.
+    pub speed: u64,
+    /// What happened before this time, as RFC 3339 has it, is served at once; without it only the
+    /// first commit is. Any text will do.
+    pub from: Option<&'a str>,
+    /// The contest whose feed is served. Any text will do.
+    pub contest: &'a str,
+    /// The port that screens come to, 1 to 65,535.
+    pub listen: u16,
+    /// The address of this machine that they come to. Any text will do.
+    pub address: &'a str,
+    /// Whether each screen is reported, too.
+    pub verbose: bool,
+}
+
 /// How much `live` reports on standard error.
 #[derive(Clone, Copy, PartialEq, Eq)]
 pub enum Verbosity {
@@ -264,6 +316,12 @@ pub enum Request<'a> {
     Pull(PullOptions<'a>),
     /// A server's feed, followed by a mirror and served by it.
     Relay(RelayOptions<'a>),
+    /// The snapshot of what the feed on standard input had published at a time.
+    AtTime(AtTimeOptions<'a>),
+    /// A server's feed, recorded in a file over cut connections.
+    Record(RecordOptions<'a>),
+    /// A recorded feed, served as it happened.
+    Replay(ReplayOptions<'a>),
     /// A feed, followed for ever, and served to many screens at once.
     Live(LiveOptions<'a>),
 }

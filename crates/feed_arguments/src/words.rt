@@ -6,12 +6,14 @@ ghost use Rattle.feed_arguments.specs.Words.{Asks, AsksNothing, RefusesBy, Repli
 
 mod asked;
 mod asked_live;
+mod asked_record;
 mod declaring;
 mod followed;
 mod line;
 mod live;
 mod options;
 mod probe;
+mod recording;
 mod refusing;
 
 use crate::request::{NoCommand, Request};
@@ -113,6 +115,8 @@ fn call_with_file(command: &str) -> Option<&'static str> {
         "check" => Some("check reads standard input: tunygarop check < FILE"),
         "play" => Some("play reads standard input: tunygarop play < FILE"),
         "serve" => Some("serve reads standard input: tunygarop serve .. < FILE"),
+        "record" => Some("record writes a file: tunygarop record --url URL --file FILE"),
+        "replay" => Some("replay reads a file: tunygarop replay --file FILE --speed N .."),
         "audit" => Some("audit reads files: tunygarop audit --primary FILE --screen FILE"),
         _ => None,
     }

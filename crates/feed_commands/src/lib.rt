@@ -22,10 +22,10 @@ pub use commands::{perform, run};
 pub use device_lines::{DeviceLines, STREAMED_BYTES};
 pub use fault::{Fault, FeedStop, REFUSED, SurveyStop};
 pub use feed_arguments::{
-    AddressFault, AuditOptions, CompareOptions, Listed, ListedFault, LiveOptions, Local,
-    MOST_ADDRESSES, NoCommand, PROGRAM, ProbeOptions, PullOptions, RelayOptions, Request,
-    ServeOptions, TablesOptions, UpstreamOptions, VERSION, Verbosity, addresses, parse_words,
-    server_listed,
+    AddressFault, AtTimeOptions, AuditOptions, CompareOptions, Listed, ListedFault, LiveOptions,
+    Local, MOST_ADDRESSES, NoCommand, PROGRAM, ProbeOptions, PullOptions, RecordOptions,
+    RelayOptions, ReplayOptions, Request, ServeOptions, TablesOptions, UpstreamOptions, VERSION,
+    Verbosity, addresses, parse_words, server_listed,
 };
 pub use feed_audit::AuditFault;
 pub use feed_http::{device, memory, stream};

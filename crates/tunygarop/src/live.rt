@@ -10,6 +10,7 @@ use feed_host::{Failure, lack_of_files};
 use feed_ledger::{NotedLink, NotedSockets};
 use feed_live::{Following, Live, Restored, RunFault, Turn, run};
 use feed_process::{Watched, Words, fault_of_system, report_of};
+use feed_recorder::Replay;
 use feed_state::{About, StateStore};
 use feed_system::{Port, Servers, System};
 use hosting::Waited;
@@ -31,6 +32,8 @@ struct Engine<'r> {
     watched: Watched,
     /// What is told of the state file, where there is one.
     about: Option<About>,
+    /// The record that is the input, where it is one.
+    replay: Option<Replay>,
     /// Whether there may be more of the input, where that is read at all.
     goes_on: bool,
 }
@@ -48,22 +51,42 @@ fn commits_of(live: &Live) -> u64 {
 }
 
 impl<'r> Engine<'r> {
+    /// Whether the input has something by now.
+    fn has_input(&self, now: u64) -> bool {
+        match &self.replay {
+            Some(replay) => replay.is_ready(now),
+            None => self.system.has_input(),
+        }
+    }
+
+    /// When the input has something, where that is known before.
+    fn input_due(&self) -> u64 {
+        match &self.replay {
+            Some(replay) => replay.next_due(),
+            None => u64::MAX,
+        }
+    }
+
     /// Reads what the input has, where that is to be read: how much, none at its end.
-    fn read_input(&mut self, takes_input: bool) -> Option<usize> {
-        if !takes_input || !self.system.has_input() {
+    fn read_input(&mut self, takes_input: bool, now: u64) -> Option<usize> {
+        if !takes_input || !self.has_input(now) {
             return None;
         }
-        Some(self.system.read_input())
+        match &mut self.replay {
+            Some(replay) => replay.give(now, &mut self.system.piece),
+            None => Some(self.system.read_input()),
+        }
     }
 
     /// Waits, and reads the clock, and the input where that may be read.
     fn wait_so(&mut self, live: &Live, due: u64, takes_input: bool) -> io::Result<Waited> {
-        let has_input = takes_input && self.system.has_input();
+        let has_input = takes_input && self.has_input(self.system.now()?);
+        let due = due.min(self.input_due());
         self.system.wait(if has_input { 0 } else { due })?;
         let began = self.system.microseconds()?;
         self.watched.advance(began / 1_000_000, live.screens_open());
         let now = self.system.now()?;
-        let read = self.read_input(takes_input);
+        let read = self.read_input(takes_input, now);
         Ok(Waited {
             now,
             began,
@@ -239,11 +262,20 @@ pub(crate) fn live_feed<'r>(
     rt: &'r HostRuntime,
     options: &'r LiveOptions<'r>,
 ) -> Result<(), Failure> {
+    serve_live(rt, options, None)
+}
+
+/// The same, where a record may be the input.
+pub(crate) fn serve_live<'r>(
+    rt: &'r HostRuntime,
+    options: &'r LiveOptions<'r>,
+    replay: Option<Replay>,
+) -> Result<(), Failure> {
     let Prepared {
         setup,
         mut hosting,
         mut devices,
-    } = prepare(rt, options)?;
+    } = prepare(rt, options, replay)?;
     let ended = run(rt.alloc(), setup, &mut hosting, &mut devices);
     drop(devices);
     drop(hosting);

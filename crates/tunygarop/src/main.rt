@@ -2,6 +2,7 @@
 #![tactic(auto)]
 
 mod live;
+mod records;
 
 use feed_commands::stream::Stream;
 use feed_commands::{Fault, NoCommand, PROGRAM, Request, parse_words, report, run};
@@ -10,8 +11,10 @@ use feed_host::{
     Errors, Failure, audit_records, ended, input_ahead, pull_feed, relay_feed, serve_feed,
 };
 use feed_process::{check, probe};
+use feed_recorder::record_feed;
 use feed_system::hold_standard;
 use live::live_feed;
+use records::{print_tables_at, replay_feed};
 use std::io::ErrorKind;
 use std::process::ExitCode;
 use std::{env, io};
@@ -55,6 +58,9 @@ fn run_request<'a>(rt: &HostRuntime, request: &Request<'_>, words: &'a [&'a str]
         Request::Serve(options) => end(rt, "serve", serve_feed(rt, options)),
         Request::Pull(options) => end(rt, "pull", pull_feed(rt, options)),
         Request::Relay(options) => end(rt, "relay", relay_feed(rt, options)),
+        Request::AtTime(options) => end(rt, "tables", print_tables_at(rt, options)),
+        Request::Record(options) => end(rt, "record", record_feed(rt, options)),
+        Request::Replay(options) => end(rt, "replay", replay_feed(rt, options)),
         Request::Live(options) if options.check => check(rt, options),
         Request::Live(options) => end(rt, "live", live_feed(rt, options)),
     }

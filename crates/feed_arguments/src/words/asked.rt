@@ -8,7 +8,9 @@ ghost use Rattle.feed_arguments.specs.Live.{MayClash, kept_bytes};
 ghost use Rattle.feed_arguments.specs.Options.{most_rounds, most_silence};
 ghost use Rattle.feed_arguments.specs.Options.{text_at, SaysNumber, IsNumberUpTo, IsNumberIfGiven};
 ghost use Rattle.feed_arguments.specs.Options.{IsGiven, IsFramed, AsksLimits, AsksLimitsOr};
+ghost use Rattle.feed_arguments.specs.Recording.{AsksNoTime, AsksAtTime};
 ghost use Rattle.feed_arguments.specs.Upstream.{AsksUpstream};
+ghost use Rattle.feed_arguments.specs.declared.request.AtTimeOptions.{AtTimeOptions as AtTime};
 ghost use Rattle.feed_arguments.specs.Words.{AsksTables, AsksCheck, AreOnInput, AsksAudit, AsksCompare, ComparesNone, AsksServe, AsksPull, AsksRelay, AsksBy, AsksAt};
 ghost use Rattle.feed_arguments.specs.declared.request.AuditOptions.{AuditOptions as Audit};
 ghost use Rattle.feed_arguments.specs.declared.request.CompareOptions.{CompareOptions as Compare};
@@ -20,12 +22,13 @@ ghost use Rattle.feed_arguments.specs.declared.request.TablesOptions.{TablesOpti
 ghost use Rattle.feed_arguments.specs.declared.request.UpstreamOptions.{UpstreamOptions as Upstream};
 
 use super::asked_live::live_options;
+use super::asked_record::{record_options, replay_options};
 use super::live::KEPT_BYTES;
 use super::options::{MOST_PORT, MOST_ROUNDS, MOST_SILENCE};
 use super::probe::probe_options;
 use crate::request::{
-    AuditOptions, CheckOptions, CompareOptions, Local, PullOptions, RelayOptions, Request,
-    ServeOptions, TablesOptions, UpstreamOptions,
+    AtTimeOptions, AuditOptions, CheckOptions, CompareOptions, Local, PullOptions, RelayOptions,
+    Request, ServeOptions, TablesOptions, UpstreamOptions,
 };
 use clap::ArgMatches;
 use feed_settings::{Framing, Limits, MOST_CHANGES, MOST_COMMITS, MOST_MEMORY};
@@ -154,18 +157,65 @@ fn limits_of_counts(matches: &ArgMatches<'_>) -> Option<Limits>
     Some(limits)
 }
 
-/// What the options of `tables` ask for.
+/// Whether neither a time nor a file of times is given.
+fn asks_no_time(matches: &ArgMatches<'_>) -> bool
+    ensures yes { result ≡ true → AsksNoTime (rows_of (found_of matches.now)) }
+    ensures no { result ≡ false → ¬ (AsksNoTime (rows_of (found_of matches.now))) }
+{
+    text(matches, "at-time").is_none() && text(matches, "times").is_none()
+}
+
+/// What the options of `tables` ask for at a token, or at the end.
 fn tables_options<'a>(matches: &ArgMatches<'a>) -> Option<TablesOptions<'a>>
     ensures some { IfSome result (λ options. AsksTables (rows_of (found_of matches.now)) options) }
     ensures none { result ≡ None → (options : Tables)
         → ¬ (AsksTables (rows_of (found_of matches.now)) options) }
 {
+    if !asks_no_time(matches) {
+        return None;
+    }
     let limits = limits(matches)?;
     Some(TablesOptions {
         at: text(matches, "at"),
         limits,
         verbose: is_given(matches, "verbose"),
     })
+}
+
+/// What the options of `tables` ask for at a time.
+fn at_time_options<'a>(matches: &ArgMatches<'a>) -> Option<AtTimeOptions<'a>>
+    ensures some { IfSome result (λ options. AsksAtTime (rows_of (found_of matches.now)) options) }
+    ensures none { result ≡ None → (options : AtTime)
+        → ¬ (AsksAtTime (rows_of (found_of matches.now)) options) }
+{
+    if text(matches, "at").is_some() {
+        return None;
+    }
+    let time = text(matches, "at-time")?;
+    let times = text(matches, "times")?;
+    let limits = limits(matches)?;
+    Some(AtTimeOptions {
+        time,
+        times,
+        limits,
+        verbose: is_given(matches, "verbose"),
+    })
+}
+
+/// What the options of `tables` ask for.
+fn tables_asked<'a>(matches: &ArgMatches<'a>) -> Option<Request<'a>>
+    ensures some { IfSome result
+        (λ request. AsksBy (codes "tables") (rows_of (found_of matches.now)) request) }
+    ensures none { result ≡ None → (request : Asked)
+        → ¬ (AsksBy (codes "tables") (rows_of (found_of matches.now)) request) }
+{
+    match tables_options(matches) {
+        Some(options) => Some(Request::Local(Local::Tables(options))),
+        None => match at_time_options(matches) {
+            Some(options) => Some(Request::AtTime(options)),
+            None => None,
+        },
+    }
 }
 
 /// What the options of `check` ask for.
@@ -394,10 +444,7 @@ fn request_named<'a>(name: &str, matches: &ArgMatches<'a>) -> Option<Request<'a>
         → (name.now ≡ codes "live") × MayClash (rows_of (found_of matches.now)) }
 {
     match name {
-        "tables" => match tables_options(matches) {
-            Some(options) => Some(Request::Local(Local::Tables(options))),
-            None => None,
-        },
+        "tables" => tables_asked(matches),
         "check" => Some(Request::Local(Local::Check(check_options(matches)))),
         "play" => Some(Request::Local(Local::Play)),
         "audit" => audit_asked(matches),
@@ -415,6 +462,14 @@ fn request_named<'a>(name: &str, matches: &ArgMatches<'a>) -> Option<Request<'a>
         },
         "relay" => match relay_options(matches) {
             Some(options) => Some(Request::Relay(options)),
+            None => None,
+        },
+        "record" => match record_options(matches) {
+            Some(options) => Some(Request::Record(options)),
+            None => None,
+        },
+        "replay" => match replay_options(matches) {
+            Some(options) => Some(Request::Replay(options)),
             None => None,
         },
         "live" => match live_options(matches) {

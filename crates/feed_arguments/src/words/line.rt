@@ -12,6 +12,7 @@ use super::options::{
     MOST_SILENCE, PORT, STAGED, USER_FILE, VERBOSE,
 };
 use super::probe::probe;
+use super::recording::{AT_TIME, TIMES, record, replay};
 use super::{PROGRAM, VERSION};
 use clap::Command;
 use feed_settings::MOST_COMMITS;
@@ -48,7 +49,7 @@ pub(super) fn command<'a>(
 }
 
 /// The options of `tables`.
-static TABLES: [Declared; 5] = [
+static TABLES: [Declared; 7] = [
     HISTORY,
     STAGED,
     MEMORY,
@@ -57,6 +58,11 @@ static TABLES: [Declared; 5] = [
         value: Value::Text("TOKEN"),
         help: "Print the tables at the first line that publishes under this token",
         ..PLAIN
+    },
+    AT_TIME,
+    Declared {
+        help: "The file that `record` wrote beside the feed, as primary.ndjson.times: it goes with --at-time",
+        ..TIMES
     },
     Declared {
         help: "Tell the number of the faulty line, too",
@@ -337,9 +343,17 @@ fn program_for_looking<'a>(alloc: Global) -> Result<Command<'a>, AllocError>
     with_command(program_for_trying(alloc), probe(alloc))
 }
 
+/// The program, with those and the commands for records.
+fn program_for_records<'a>(alloc: Global) -> Result<Command<'a>, AllocError>
+    ensures { IfOk result (λ c. app_of c ≡ words.program_for_records) }
+{
+    let program = with_command(program_for_looking(alloc), record(alloc));
+    with_command(program, replay(alloc))
+}
+
 /// The command line.
 pub(super) fn command_line<'a>(alloc: Global) -> Result<Command<'a>, AllocError>
     ensures { IfOk result (λ c. app_of c ≡ words.command_line) }
 {
-    with_command(program_for_looking(alloc), live(alloc))
+    with_command(program_for_records(alloc), live(alloc))
 }

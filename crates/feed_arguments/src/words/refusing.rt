@@ -8,6 +8,10 @@ use std::alloc::{AllocError, Global};
 const AUDIT_READS_TWICE: &str = "audit can read one record from standard input, and not both: \
                                  give --primary or --screen the name of a file";
 
+const TABLES: &str = "tables takes --at TOKEN, or --at-time TIME with --times FILE";
+
+const RECORD: &str = "record takes --url URL, or --host, --port and --contest; and --file FILE";
+
 const NO_SERVER: &str = "--from, --host-header and --user-file go with --url, or with --host and \
                          --port";
 
@@ -42,12 +46,29 @@ fn refusal_of_ports(matches: &ArgMatches<'_>) -> Option<&'static str> {
     }
 }
 
+/// What is told of a URL that names no feed; nothing if none is given, or one that does.
+fn refusal_of_url(alloc: Global, matches: &ArgMatches<'_>) -> Result<Option<String>, AllocError> {
+    let Some(url) = text(matches, "url") else {
+        return Ok(None);
+    };
+    match feed_url(url) {
+        Ok(_) => Ok(None),
+        Err(fault) => Ok(Some(format!(in alloc; "--url: {fault}")?)),
+    }
+}
+
+/// What is told of the options of `record`.
+fn refusal_of_record(alloc: Global, matches: &ArgMatches<'_>) -> Result<String, AllocError> {
+    match refusal_of_url(alloc, matches)? {
+        Some(text) => Ok(text),
+        None => String::from_str(alloc, RECORD),
+    }
+}
+
 /// What is told of the options of `live`.
 fn refusal_of_live(alloc: Global, matches: &ArgMatches<'_>) -> Result<String, AllocError> {
-    if let Some(url) = text(matches, "url") {
-        if let Err(fault) = feed_url(url) {
-            return format!(in alloc; "--url: {fault}");
-        }
+    if let Some(text) = refusal_of_url(alloc, matches)? {
+        return Ok(text);
     }
     let text = match refusal_of_ports(matches) {
         Some(text) => text,
@@ -61,6 +82,9 @@ fn refusal_of_live(alloc: Global, matches: &ArgMatches<'_>) -> Result<String, Al
 pub(super) fn refusal(alloc: Global, matches: &ArgMatches<'_>) -> Result<String, AllocError> {
     let text = match matches.subcommand() {
         Some(("live", options)) => return refusal_of_live(alloc, options),
+        Some(("record", options)) => return refusal_of_record(alloc, options),
+        Some(("replay", _)) => LISTEN,
+        Some(("tables", _)) => TABLES,
         Some(("audit", options)) if compares_none(options) && reads_input_twice(options) => {
             AUDIT_READS_TWICE
         }

@@ -8,6 +8,7 @@ use feed_host::Failure;
 use feed_ledger::{NotedLink, NotedSockets};
 use feed_live::{LiveLimits, ScreenLimits, Setup};
 use feed_process::{Made, make};
+use feed_recorder::Replay;
 use feed_system::Resources;
 
 fn screen_limits_of(options: &LiveOptions<'_>) -> ScreenLimits {
@@ -49,6 +50,7 @@ pub(super) struct Prepared<'r> {
 pub(super) fn prepare<'r>(
     rt: &'r HostRuntime,
     options: &'r LiveOptions<'r>,
+    replay: Option<Replay>,
 ) -> Result<Prepared<'r>, Failure> {
     let Made {
         contest,
@@ -74,6 +76,7 @@ pub(super) fn prepare<'r>(
         system,
         watched,
         about,
+        replay,
         goes_on: options.upstream.is_none() || options.until_eof,
     };
     let Devices {

@@ -3,4 +3,4 @@ use Rattle.feed_arguments.proofs.words.line.command_line.Goals as goal
 
 pub returns : goal.returns
 returns c =
-    c.with_command.ensures _ _ c.program_for_looking.ensures c.live.ensures refl
+    c.with_command.ensures _ _ c.program_for_records.ensures c.live.ensures refl
