@@ -8,11 +8,11 @@ ghost use Rattle.feed_arguments.specs.Words as words;
 use super::declaring::{Declared, PLAIN, Value, add_options};
 use super::live::live;
 use super::options::{
-    BASE, CHUNKED, CONTEST, COUNT, FROM, HISTORY, HOST_HEADER, MEMORY, MOST_PORT, MOST_ROUNDS,
-    MOST_SILENCE, PORT, STAGED, USER_FILE, VERBOSE,
+    AT_TIME, BASE, CHUNKED, CONTEST, COUNT, FROM, HISTORY, HOST_HEADER, MEMORY, MOST_PORT,
+    MOST_ROUNDS, MOST_SILENCE, PORT, STAGED, TIMES, USER_FILE, VERBOSE,
 };
 use super::probe::probe;
-use super::recording::{AT_TIME, TIMES, record, replay};
+use super::recording::{record, replay};
 use super::{PROGRAM, VERSION};
 use clap::Command;
 use feed_settings::MOST_COMMITS;

@@ -112,3 +112,19 @@ pub(super) const USER_FILE: Declared = Declared {
     help: "A file with a line NAME:PASSWORD for the server, which nobody else may read",
     ..PLAIN
 };
+
+/// `--at-time TIME`.
+pub(super) const AT_TIME: Declared = Declared {
+    name: "at-time",
+    value: Value::Text("TIME"),
+    help: "Print the tables at the last token that came by then, as 2026-12-01T15:03:00Z, by the file of \
+           --times",
+    ..PLAIN
+};
+
+/// `--times FILE`; whose times these are differs by command.
+pub(super) const TIMES: Declared = Declared {
+    name: "times",
+    value: Value::Text("FILE"),
+    ..PLAIN
+};

@@ -5,28 +5,12 @@ ghost use Rattle.feed_arguments.specs.Recording as recording;
 
 use super::declaring::{Declared, PLAIN, Value};
 use super::line::command;
-use super::options::{BASE, CONTEST, HOST_HEADER, MOST_PORT, USER_FILE, VERBOSE};
+use super::options::{BASE, CONTEST, HOST_HEADER, MOST_PORT, TIMES, USER_FILE, VERBOSE};
 use clap::Command;
 use std::alloc::{AllocError, Global};
 
 /// How many times as fast as it happened a record may be replayed.
 pub(super) const MOST_SPEED: u64 = 1_000_000;
-
-/// `--at-time TIME`.
-pub(super) const AT_TIME: Declared = Declared {
-    name: "at-time",
-    value: Value::Text("TIME"),
-    help: "Print the tables at the last token that came by then, as 2026-12-01T15:03:00Z, by the file of \
-           --times",
-    ..PLAIN
-};
-
-/// `--times FILE`; whose times these are differs by command.
-pub(super) const TIMES: Declared = Declared {
-    name: "times",
-    value: Value::Text("FILE"),
-    ..PLAIN
-};
 
 /// `--file FILE`; what it has differs by command.
 const FILE: Declared = Declared {
