@@ -35,14 +35,16 @@ call_words call =
 
 -- ---- what they ask for
 
--- the feed of a URL is what is followed of a contest
-pub record IsNamed (text contest : List ℕ) (upstream : UpstreamOptions) : Type 0 where
-  pub url : FeedUrl
-  pub url_is : IsFeedUrl text url
+-- the feed that a URL names is what is followed of a contest
+pub record IsAt (url : FeedUrl) (contest : List ℕ) (upstream : UpstreamOptions) : Type 0 where
   pub contest_is : url.contest.now ≡ contest
   pub host_is : url.host.now ≡ upstream.host.now
   pub port_is : url.port ≡ upstream.port
   pub base_is : url.base.now ≡ upstream.base.now
+
+-- a text is such a URL
+abbrev pub IsNamed : List ℕ → List ℕ → UpstreamOptions → Type 0
+IsNamed text contest upstream = (url : FeedUrl) × IsFeedUrl text url × IsAt url contest upstream
 
 -- no option takes from what a relay promises, and none has it do something else
 pub record IsUsual (options : LiveOptions) : Type 0 where

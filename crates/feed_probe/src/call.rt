@@ -1,11 +1,11 @@
 //! The call of `live` that a server takes.
 ghost use Rattle.std.specs.Prelude.{◌≡◌, ◌++◌, ◌∷◌, [], true, map, option_map, string_bytes, IfOk, OnOk};
-ghost use Rattle.feed_probe.specs.Call.{IsAsked, IsCalled, IsNamed, IsUsual, call_words, option_words, needs_words};
+ghost use Rattle.feed_probe.specs.Call.{IsAsked, IsAt, IsCalled, IsNamed, IsUsual, call_words, option_words, needs_words};
 
 use crate::Needs;
 use crate::needs::USUAL_PAUSE;
 use feed_arguments::{
-    LiveOptions, NoCommand, PROGRAM, Request, UpstreamOptions, feed_url, parse_words,
+    FeedUrl, LiveOptions, NoCommand, PROGRAM, Request, UpstreamOptions, feed_url, parse_words,
 };
 use std::alloc::{AllocError, Global};
 use thiserror::Error;
@@ -119,17 +119,22 @@ fn are_same(text: Option<&str>, other: Option<&str>) -> bool
     }
 }
 
-/// Whether the feed of a URL is what is followed of a contest.
+/// Whether the feed that a URL names is what is followed of a contest.
+fn is_at(url: FeedUrl<'_>, contest: &str, upstream: &UpstreamOptions<'_>) -> bool
+    ensures { result ≡ true → IsAt url contest.now upstream.now }
+{
+    url.contest == contest
+        && url.host == upstream.host
+        && url.port == upstream.port
+        && url.base == upstream.base
+}
+
+/// The same of a text, which is the URL.
 fn is_named(url: &str, contest: &str, upstream: &UpstreamOptions<'_>) -> bool
     ensures { result ≡ true → IsNamed url.now contest.now upstream.now }
 {
     match feed_url(url) {
-        Ok(url) => {
-            url.contest == contest
-                && url.host == upstream.host
-                && url.port == upstream.port
-                && url.base == upstream.base
-        }
+        Ok(url) => is_at(url, contest, upstream),
         Err(_) => false,
     }
 }

@@ -66,12 +66,16 @@ pub(super) struct Passage {
     payload: Vec<u8>,
 }
 
-/// Connects to the first address of a host that accepts that in time.
+/// Connects to the first address of a host that accepts that in time. A host without an address
+/// isn't found.
 fn connect(rt: &HostRuntime, host: &str, port: u16) -> io::Result<TcpStream> {
     let start = Instant::now(rt)?;
     let most = Duration::from_millis(OPENS);
     let mut last = ErrorKind::NotFound;
-    for address in (host, port).to_socket_addrs(rt)? {
+    let Ok(addresses) = (host, port).to_socket_addrs(rt) else {
+        return Err(last.into());
+    };
+    for address in addresses {
         let left = most.saturating_sub(start.elapsed(rt)?);
         if left.is_zero() {
             break;

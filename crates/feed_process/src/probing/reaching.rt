@@ -5,6 +5,7 @@ use super::report::{Report, UNFIT, UNREACHED, UNSEEN, printable, seconds};
 use feed_commands::Server;
 use feed_probe::{Framing, Head};
 use std::alloc::{AllocError, Global};
+use std::io::ErrorKind;
 
 /// How many bytes of what came are told.
 const TOLD: usize = 60;
@@ -68,7 +69,10 @@ fn unreached(
         return Ok(false);
     };
     let where_to = asked(report.alloc(), server)?;
-    let text = format!(in report.alloc(); "{where_to}: {reason}")?;
+    let text = match reason {
+        ErrorKind::NotFound => format!(in report.alloc(); "{where_to}: its name has no address")?,
+        _ => format!(in report.alloc(); "{where_to}: {reason}")?,
+    };
     report.problem("reached", text, UNREACHABLE, UNREACHED)?;
     Ok(true)
 }
