@@ -184,10 +184,18 @@ impl Port {
         }
     }
 
-    /// Keeps a socket at its number, and has events of it told.
-    fn keep(&mut self, at: usize, owner: Owner, mut stream: TcpStream) -> io::Result<()>
-        requires { MayHaveOneMore self.old.tally owner }
+    /// Keeps at its number the socket of somebody who may connect, and has events of it told.
+    fn keep(
+        &mut self,
+        at: usize,
+        origin: Origin,
+        owner: Owner,
+        mut stream: TcpStream,
+    ) -> io::Result<()>
+        requires room { MayHaveOneMore self.old.tally owner }
+        requires within { IsTrue (may_connect self.old.guard.networks origin) }
     {
+        let _origin = origin;
         let _ = stream.set_nodelay(true);
         let interests = Interest::READABLE | Interest::WRITABLE;
         let token = Token(FIRST_SCREEN.saturating_add(at));
@@ -213,7 +221,8 @@ impl Sockets for Port {
         if !self.lets_in(origin, owner) {
             return Err(Stop::Gone);
         }
-        self.keep(at, owner, stream).map_err(|_| Stop::Failed)?;
+        self.keep(at, origin, owner, stream)
+            .map_err(|_| Stop::Failed)?;
         Ok(peer)
     }
 

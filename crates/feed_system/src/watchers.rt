@@ -2,7 +2,8 @@
 //! answered with what the relay is at that moment, and change nothing of it. Where all places are
 //! taken, who is not being answered gives way to who waits.
 
-ghost use Rattle.std.specs.Prelude.{◌≡◌};
+ghost use Rattle.std.specs.Prelude.{◌≡◌, IsTrue};
+ghost use Rattle.feed_system.specs.Guard.{may_connect};
 
 use crate::guard::Guard;
 use crate::sockets::{read_once, write_once};
@@ -303,15 +304,18 @@ impl Watchers {
     /// taken.
     fn accept_one<W: Watch>(&mut self, alloc: Global, relay: &W, now: u64) -> Option<()> {
         let (stream, peer) = self.listener.as_ref()?.accept().ok()?;
-        if !self.guard.lets_in(Origin::of(peer.ip()), true) {
+        let origin = Origin::of(peer.ip());
+        if !self.guard.lets_in(origin, true) {
             return Some(());
         }
         self.make_room();
-        self.seat(alloc, stream, relay, now)
+        self.seat(alloc, origin, stream, relay, now)
     }
 
     /// Closes who gives way, where no place is free.
-    fn make_room(&mut self) {
+    fn make_room(&mut self)
+        ensures guard { self.new.guard ≡ self.old.guard }
+    {
         if self.watchers.len() < MOST_WATCHERS {
             return;
         }
@@ -328,15 +332,19 @@ impl Watchers {
         self.registry.register(stream, token, interests)
     }
 
-    /// Gives a connection a place, and reads what it has sent: who sent a request doesn't give way
-    /// as one that sent nothing.
+    /// Gives the connection of somebody who may connect a place, and reads what it has sent: who
+    /// sent a request doesn't give way as one that sent nothing.
     fn seat<W: Watch>(
         &mut self,
         alloc: Global,
+        origin: Origin,
         stream: TcpStream,
         relay: &W,
         now: u64,
-    ) -> Option<()> {
+    ) -> Option<()>
+        requires within { IsTrue (may_connect self.old.guard.networks origin) }
+    {
+        let _origin = origin;
         let mut watcher = Watcher::new(alloc, stream, now, self.came);
         self.came = self.came.saturating_add(1);
         self.register(&mut watcher.stream).ok()?;
