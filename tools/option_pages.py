@@ -286,10 +286,16 @@ def roff_entry(name, of_commands):
     return f".TP\n{roff_head(name, word, is_alone)}\n" + "\n.br\n".join(parts)
 
 
+def parted(texts):
+    """The texts of an option that is a word alone, and those of one with a name: both may have the same."""
+    parts = [{parts: names for parts, names in texts.items() if parts[1] == is_alone} for is_alone in (True, False)]
+    return [some for some in parts if some]
+
+
 def man_page():
     """The man page, with its section on options as help has these."""
     texts = grouped(lambda it: (it.word, it.is_alone, it.help + without(it)))
-    entries = [roff_entry(name, texts[name]) for name in sorted(texts)]
+    entries = [roff_entry(name, some) for name in sorted(texts) for some in parted(texts[name])]
     before, rest = (TOP / MAN).read_text().split(".SH OPTIONS\n")
     after = rest[rest.index("\n.SH ") :]
     ends = [
