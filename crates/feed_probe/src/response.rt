@@ -210,8 +210,11 @@ impl Response {
         Ok(())
     }
 
-    /// Reads of the body what there is.
+    /// Reads of the body what there is. What comes after all of it is ignored.
     fn read_body(&mut self, alloc: Global, out: &mut Vec<u8>) -> Result<(), AllocError> {
+        if self.is_whole {
+            self.left.clear();
+        }
         let Some(head) = &self.head else {
             return Ok(());
         };
