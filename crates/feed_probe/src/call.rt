@@ -120,8 +120,8 @@ fn are_same(text: Option<&str>, other: Option<&str>) -> bool
 }
 
 /// Whether the feed that a URL names is what is followed of a contest.
-fn is_at(url: FeedUrl<'_>, contest: &str, upstream: &UpstreamOptions<'_>) -> bool
-    ensures { result ≡ true → IsAt url contest.now upstream.now }
+fn is_at(url: &FeedUrl<'_>, contest: &str, upstream: &UpstreamOptions<'_>) -> bool
+    ensures { result ≡ true → IsAt url.now contest.now upstream.now }
 {
     url.contest == contest
         && url.host == upstream.host
@@ -134,7 +134,7 @@ fn is_named(url: &str, contest: &str, upstream: &UpstreamOptions<'_>) -> bool
     ensures { result ≡ true → IsNamed url.now contest.now upstream.now }
 {
     match feed_url(url) {
-        Ok(url) => is_at(url, contest, upstream),
+        Ok(url) => is_at(&url, contest, upstream),
         Err(_) => false,
     }
 }

@@ -1,5 +1,6 @@
 //! Tokens of a feed, and where their lines end.
-ghost use Rattle.std.specs.Prelude.{◌≡◌, ◌≤◌, ℕ, List, length, IfOk, IfSome};
+ghost use Rattle.std.specs.Prelude.{◌≤◌, length, IfOk, IfSome};
+ghost use Rattle.feed_note.specs.Lines.{HasNoLineFeed};
 
 use feed_note::{Line, LineFault, read_line, split_line};
 use std::alloc::{AllocError, Global};
@@ -12,7 +13,9 @@ pub struct TokenEnd {
 }
 
 /// The token of a line; none where it has none, or can't be read.
-fn token_of(alloc: Global, line: &[u8]) -> Result<Option<String>, AllocError> {
+fn token_of(alloc: Global, line: &[u8]) -> Result<Option<String>, AllocError>
+    requires { HasNoLineFeed line.now }
+{
     match read_line(alloc, line) {
         Ok(Line::Note { changes: _, token }) => match token {
             Some(token) => Ok(Some(String::from_str(alloc, token.text())?)),
