@@ -180,13 +180,25 @@ fn ask<'a>(alloc: Global, words: &'a [&'a str], call: &Call<'_>) -> Result<bool,
     }
 }
 
+/// The texts of words.
+fn texts_of<'a>(alloc: Global, words: &'a [String]) -> Result<Vec<&'a str>, AllocError>
+    ensures { IfOk result (λ texts.
+        map (λ text. text.now) texts.items ≡ map string_bytes words.entry.now) }
+{
+    let mut texts = Vec::new(alloc);
+    for word in words {
+        texts.push(word.as_str())?;
+    }
+    Ok(texts)
+}
+
 /// Whether a list of words asks for just a call.
 fn asks(alloc: Global, words: &[String], call: &Call<'_>) -> Result<bool, AllocError>
     ensures { IfOk result (λ asks. asks ≡ true
         → IsAsked call.now (map string_bytes words.now)) }
 {
-    let texts: Vec<&str> = words.iter().map(|word| word.as_str()).collect(alloc)?;
-    ask(alloc, &texts, call)
+    let texts = texts_of(alloc, words)?;
+    ask(alloc, texts.as_slice(), call)
 }
 
 /// The words of a call of `live`: read again, they ask for just that.
