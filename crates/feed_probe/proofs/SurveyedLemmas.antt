@@ -55,7 +55,7 @@ begins text left number place at p =
       before = p.before;
       whole = p.whole;
       is = ap (take place) p.is ∙ ap (λ n. take n (ended p.before ++ left)) here
-      ∙ whole_prefix (ended p.before) left;
+          ∙ whole_prefix (ended p.before) left;
       count = p.count;
     }
 

@@ -8,8 +8,7 @@ lines-init c = (starts c.args.text.now, (c.requires, omega arith))
 
 pub lines-preserved : goal.lines-preserved
 lines-preserved c =
-    let (unbroken, split) = c.in-Some.ensures.some in
-    (
+    let (unbroken, split) = c.in-Some.ensures.some in (
       more _ _ _ _ c.lines.at unbroken split c.lines.invariant.0,
       (omega arith, shorter _ _ _ _ split c.lines.invariant.1.1),
     )
