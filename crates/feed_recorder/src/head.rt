@@ -1,8 +1,8 @@
 //! The head of a response: its status, and how its body is framed (RFC 9112, sections 4 and 6).
 
 use crate::cut::Cut;
-use feed_tape::Body;
-use feed_wire::{Chunking, HEAD_BYTES, HEAD_FIELDS};
+use feed_tape::BodyFraming;
+use feed_wire::{HEAD_BYTES, HEAD_FIELDS};
 use httparse::{EMPTY_HEADER, Error, Header, Response, Status};
 
 /// The most digits of a length.
@@ -13,7 +13,7 @@ const LENGTH_DIGITS: usize = 18;
 pub(crate) struct Head {
     pub(crate) len: usize,
     pub(crate) status: u16,
-    pub(crate) body: Body,
+    pub(crate) framing: BodyFraming,
 }
 
 fn is_word(word: &[u8], text: &[u8]) -> bool {
@@ -29,7 +29,7 @@ fn length_of(text: &[u8]) -> Option<u64> {
 }
 
 /// What a field says of the framing, behind those before it.
-fn framed_by(body: Body, field: &Header) -> Result<Body, Cut> {
+fn framed_by(framing: BodyFraming, field: &Header) -> Result<BodyFraming, Cut> {
     let (name, value) = (field.name.as_bytes(), field.value);
     if is_word(b"content-encoding", name) && !is_word(b"identity", value) {
         return Err(Cut::BadCoding);
@@ -38,24 +38,24 @@ fn framed_by(body: Body, field: &Header) -> Result<Body, Cut> {
         if !is_word(b"chunked", value) {
             return Err(Cut::BadCoding);
         }
-        return Ok(Body::InChunks(Chunking::LineStart));
+        return Ok(BodyFraming::InChunks);
     }
-    if !is_word(b"content-length", name) || matches!(body, Body::InChunks(_)) {
-        return Ok(body);
+    if !is_word(b"content-length", name) || matches!(framing, BodyFraming::InChunks) {
+        return Ok(framing);
     }
     match length_of(value) {
-        Some(length) => Ok(Body::Sized(length)),
+        Some(length) => Ok(BodyFraming::Sized(length)),
         None => Err(Cut::BadCoding),
     }
 }
 
 /// How the fields of a head say that the body is framed.
-fn body_of(fields: &[Header]) -> Result<Body, Cut> {
-    let mut body = Body::ToEnd;
+fn framing_of(fields: &[Header]) -> Result<BodyFraming, Cut> {
+    let mut framing = BodyFraming::ToEnd;
     for field in fields {
-        body = framed_by(body, field)?;
+        framing = framed_by(framing, field)?;
     }
-    Ok(body)
+    Ok(framing)
 }
 
 /// The head at the start of these bytes; nothing where it isn't whole.
@@ -65,12 +65,16 @@ pub(crate) fn find_head(bytes: &[u8]) -> Result<Option<Head>, Cut> {
     match response.parse(bytes) {
         Ok(Status::Complete(len)) => {
             let status = response.code.unwrap_or(0);
-            let body = if status == 200 {
-                body_of(response.headers)?
+            let framing = if status == 200 {
+                framing_of(response.headers)?
             } else {
-                Body::ToEnd
+                BodyFraming::ToEnd
             };
-            Ok(Some(Head { len, status, body }))
+            Ok(Some(Head {
+                len,
+                status,
+                framing,
+            }))
         }
         Ok(Status::Partial) if bytes.len() <= HEAD_BYTES => Ok(None),
         Ok(Status::Partial) | Err(_) => Err(Cut::BadHead),

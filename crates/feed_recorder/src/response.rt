@@ -3,7 +3,7 @@
 use crate::cut::Cut;
 use crate::head::{Head, find_head};
 use feed_commands::Fault;
-use feed_tape::{Body, BodyFault, is_whole, take_payload};
+use feed_tape::{BodyFault, Payload};
 use std::alloc::Global;
 
 /// A response, as far as it came.
@@ -13,8 +13,8 @@ pub(crate) struct Response {
     had_token: bool,
     /// The bytes of a head that isn't whole.
     head: Vec<u8>,
-    /// What is to come of the body; nothing before the head is whole.
-    body: Option<Body>,
+    /// The body; nothing before the head is whole.
+    body: Option<Payload>,
     /// The payload that came with the last piece.
     pub(crate) payload: Vec<u8>,
 }
@@ -53,7 +53,7 @@ impl Response {
     /// Whether its end came.
     pub(crate) fn is_whole(&self) -> bool {
         match self.body {
-            Some(body) => is_whole(body),
+            Some(body) => body.is_whole(),
             None => false,
         }
     }
@@ -80,11 +80,11 @@ impl Response {
         }
         let behind = self.head.get(head.len..).unwrap_or(&[]);
         let behind = needs_memory(Vec::from_slice(alloc, behind))?;
-        self.take_body(head.body, behind.as_slice())
+        self.take_body(Payload::new(head.framing), behind.as_slice())
     }
 
-    fn take_body(&mut self, body: Body, piece: &[u8]) -> Result<(), Stop> {
-        match take_payload(body, piece, &mut self.payload) {
+    fn take_body(&mut self, body: Payload, piece: &[u8]) -> Result<(), Stop> {
+        match body.take(piece, &mut self.payload) {
             Ok(body) => {
                 self.body = Some(body);
                 Ok(())
