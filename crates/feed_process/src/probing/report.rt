@@ -181,22 +181,10 @@ impl Report {
     /// Appends the report as lines, with the call at its end where there is one.
     pub(super) fn put_lines(&self, call: &[String], out: &mut String) -> Result<(), AllocError> {
         for line in &self.lines {
-            put(
-                &[
-                    line.level.word(),
-                    " ",
-                    line.topic,
-                    ": ",
-                    line.text.as_str(),
-                    "\n",
-                ],
-                out,
-            )?;
-            if !line.means.is_empty() {
-                put(&["    ", line.means, "\n"], out)?;
-            }
+            put_line(line, out)?;
         }
-        put(&[self.end(), "\n"], out)?;
+        out.push_str(self.end())?;
+        out.push('\n')?;
         if call.is_empty() {
             return Ok(());
         }
@@ -263,12 +251,20 @@ impl Report {
     }
 }
 
-/// Appends texts.
-fn put(texts: &[&str], out: &mut String) -> Result<(), AllocError> {
-    for text in texts {
-        out.push_str(text)?;
+/// Appends a finding, and what it means on a line of its own.
+fn put_line(line: &Line, out: &mut String) -> Result<(), AllocError> {
+    out.push_str(line.level.word())?;
+    out.push(' ')?;
+    out.push_str(line.topic)?;
+    out.push_str(": ")?;
+    out.push_str(line.text.as_str())?;
+    out.push('\n')?;
+    if line.means.is_empty() {
+        return Ok(());
     }
-    Ok(())
+    out.push_str("    ")?;
+    out.push_str(line.means)?;
+    out.push('\n')
 }
 
 /// The begin of a text, with `?` for what can't be printed.
